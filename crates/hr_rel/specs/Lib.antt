@@ -1,2 +1,9 @@
 pub mod Printable
 pub mod Name
+pub mod Database
+pub mod Point
+pub mod Insert
+pub mod Exec
+pub mod Serial
+pub mod SameAnswer
+pub mod Worked

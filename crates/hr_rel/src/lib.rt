@@ -8,15 +8,18 @@ mod copy;
 mod expr;
 mod name;
 mod order;
+mod point;
 mod seq;
 mod stmt;
 mod value;
+pub mod worked;
 
 pub use answer::{Answer, RunError};
 pub use catalog::{Catalog, ColKind, ColumnDef, TableDef};
 pub use copy::TryCopy;
 pub use expr::{ColRef, Expr, Op, Operand, Pred};
 pub use name::Name;
+pub use point::PointQuery;
 pub use seq::Seq;
 pub use stmt::{DeleteStmt, InsertStmt, Item, SelectStmt, Set, Stmt, UpdateStmt};
 pub use value::{Row, Rows, Table, Value};
