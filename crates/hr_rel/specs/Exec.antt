@@ -1,5 +1,5 @@
 -- What a statement means on a database.
-use Rattle.std.specs.Prelude.{Bool, true, false, not, ◌&&◌, ◌==◌, nat_lt, if◌then◌else◌, Option, Some, None, Result, Ok, Err, List, [], ◌∷◌, length, map, filter}
+use Rattle.std.specs.Prelude.{Bool, true, false, not, ◌&&◌, ◌==◌, nat_lt, nat_le, if◌then◌else◌, Option, Some, None, Result, Ok, Err, List, [], ◌∷◌, length, map, filter}
 use Rattle.std.specs.List.{list_all, zip}
 use Rattle.hr_rel.specs.declared.value.Value.{Value}
 use Rattle.hr_rel.specs.declared.value.Value.TheVariants as value
@@ -11,6 +11,7 @@ use Rattle.hr_rel.specs.declared.catalog.Catalog.{Catalog}
 use Rattle.hr_rel.specs.declared.catalog.ColumnDef.{ColumnDef}
 use Rattle.hr_rel.specs.declared.catalog.ColKind.{ColKind}
 use Rattle.hr_rel.specs.declared.catalog.ColKind.TheVariants as kind
+use Rattle.hr_rel.specs.declared.catalog.TheConstants.{MAX_COLUMNS}
 use Rattle.hr_rel.specs.declared.stmt.Stmt.{Stmt}
 use Rattle.hr_rel.specs.declared.stmt.Stmt.TheVariants as stmt
 use Rattle.hr_rel.specs.declared.stmt.InsertStmt.{InsertStmt}
@@ -36,8 +37,9 @@ is_of_kind kind.Text (value.Text t) = true
 abbrev pub row_fits : List ColumnDef → List Value → Bool
 row_fits columns row = (length row == length columns) && list_all (λ (p : ColumnDef × Value). is_of_kind p.0.kind p.1) (zip columns row)
 
+-- an INSERT has a row, and each of its rows fits the table, which has no more columns than there may be
 abbrev pub insert_fits : Catalog → InsertStmt → Bool
-insert_fits catalog s = nat_lt s.table (length catalog.tables) && not (is_nothing s.rows) && list_all (row_fits (columns_of catalog s.table)) s.rows
+insert_fits catalog s = nat_lt s.table (length catalog.tables) && nat_le (length (columns_of catalog s.table)) MAX_COLUMNS && not (is_nothing s.rows) && list_all (row_fits (columns_of catalog s.table)) s.rows
 
 abbrev pub point_fits : Catalog → Option PointQuery → Bool
 point_fits catalog None = false

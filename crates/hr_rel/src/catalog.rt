@@ -1,6 +1,9 @@
 use crate::{Name, Seq, TryCopy};
 use std::alloc::{AllocError, Global};
 
+/// How many columns a table has at most.
+pub const MAX_COLUMNS: usize = 8;
+
 /// The tables of a database. No statement changes it.
 #[derive(Drop)]
 pub struct Catalog {

@@ -15,7 +15,7 @@ mod value;
 pub mod worked;
 
 pub use answer::{Answer, RunError};
-pub use catalog::{Catalog, ColKind, ColumnDef, TableDef};
+pub use catalog::{Catalog, ColKind, ColumnDef, MAX_COLUMNS, TableDef};
 pub use copy::TryCopy;
 pub use expr::{ColRef, Expr, Op, Operand, Pred};
 pub use name::Name;

@@ -1,4 +1,4 @@
-ghost use Rattle.std.specs.Prelude.{◌≡◌, ◌↔◌, [], ◌∷◌, ◌++◌, length, IsTrue, IfOk, OnOk, OnErr};
+ghost use Rattle.std.specs.Prelude.{◌≡◌, ◌↔◌, [], ◌∷◌, ◌++◌, ◌<◌, ◌≤◌, length, insert, slice_set, IsTrue, IfOk, OnOk, OnErr};
 
 use crate::TryCopy;
 use std::alloc::{AllocError, Global};
@@ -73,6 +73,24 @@ impl<T: Drop> Seq<T> {
     {
         self.items.push(item)?;
         Ok(())
+    }
+
+    /// Puts an item before the one at `at`, or at the end. Where memory runs out, nothing changes.
+    pub fn insert(&mut self, at: usize, item: T) -> Result<(), AllocError>
+        requires { at ≤ length self.old }
+        ensures ok { OnOk result (self.new ≡ insert self.old at item) }
+        ensures err { OnErr result (self.new ≡ self.old) }
+    {
+        self.items.insert(at, item)?;
+        Ok(())
+    }
+
+    /// Puts an item in the place of the one at `at`; takes no memory.
+    pub fn set(&mut self, at: usize, item: T)
+        requires { at < length self.old }
+        ensures { self.new ≡ slice_set self.old at item }
+    {
+        self.items[at] = item;
     }
 }
 

@@ -1,0 +1,6 @@
+use Rattle.std.proofs.Common.{◌≡◌, drop}
+use Rattle.hr_rel.specs.Insert.{inserted}
+use Rattle.hr_plain.proofs.insert.inserted.Given as goal
+
+abbrev pub invariant-rows : goal.invariant-rows
+invariant-rows l = inserted l.columns l.next (drop l.row-index l.rows) ≡ inserted l.columns l.table l.rows

@@ -1,0 +1,117 @@
+//! INSERT: one row after another into a copy of the table.
+ghost use Rattle.std.specs.Prelude.{◌≡◌, ◌<◌, ◌≤◌, IfOk, IfSome, OnOk, length, position};
+ghost use Rattle.std.specs.List.{list_any, zip};
+ghost use Rattle.hr_rel.specs.Insert.{has_key, refuses, null_refused, duplicate_key, insert_error, comes_after, place_of, put_row, inserted};
+
+use crate::point::{has_key, key_of};
+use hr_rel::{ColumnDef, MAX_COLUMNS, Row, RunError, Table, TryCopy, Value};
+use std::alloc::{AllocError, Global};
+
+/// The table with the rows in it too, or the first error of a row. The old table stands as it is.
+pub fn inserted(
+    alloc: Global,
+    columns: &[ColumnDef],
+    table: &Table,
+    rows: &[Row],
+) -> Result<Result<Table, RunError>, AllocError>
+    requires { length columns.now ≤ MAX_COLUMNS }
+    ensures { IfOk result (λ outcome. outcome ≡ inserted columns.now table.now rows.now) }
+{
+    let mut next = table.try_copy(alloc)?;
+    'rows: for row in rows {
+        if let Some(error) = insert_error(columns, next.as_slice(), row) {
+            return Ok(Err(error));
+        }
+        put_row(&mut next, row.try_copy(alloc)?)?;
+    }
+    Ok(Ok(next))
+}
+
+// Why the row can't be inserted: a NULL that is refused comes before a key that is there.
+fn insert_error(columns: &[ColumnDef], table: &[Row], row: &Row) -> Option<RunError>
+    requires { length columns.now ≤ MAX_COLUMNS }
+    ensures { result ≡ insert_error columns.now table.now row.now }
+{
+    match null_refused(columns, row) {
+        Some(error) => Some(error),
+        None => duplicate_key(table, row),
+    }
+}
+
+fn null_refused(columns: &[ColumnDef], row: &Row) -> Option<RunError>
+    requires { length columns.now ≤ MAX_COLUMNS }
+    ensures { result ≡ null_refused columns.now row.now }
+{
+    match first_refusal(columns, row.as_slice()) {
+        Some(at) => Some(RunError::NullRefused(at as u32 + 1)),
+        None => None,
+    }
+}
+
+fn first_refusal(columns: &[ColumnDef], row: &[Value]) -> Option<usize>
+    ensures first { result ≡ position refuses (zip columns.now row.now) }
+    ensures within { IfSome result (λ at. at < length columns.now) }
+{
+    columns
+        .iter()
+        .zip(row)
+        .position(|(column, value)| refuses(column, value))
+}
+
+fn refuses(column: &ColumnDef, value: &Value) -> bool
+    ensures { result ≡ refuses (column.now, value.now) }
+{
+    matches!(value, Value::Null) && !column.nullable
+}
+
+fn duplicate_key(table: &[Row], row: &Row) -> Option<RunError>
+    ensures { result ≡ duplicate_key table.now row.now }
+{
+    match key_of(row) {
+        Some(key) if contains_key(table, key) => Some(RunError::DuplicateKey(key)),
+        _ => None,
+    }
+}
+
+fn contains_key(table: &[Row], key: i64) -> bool
+    ensures { result ≡ list_any (has_key key) table.now }
+{
+    table.iter().any(|row| has_key(key, row))
+}
+
+fn put_row(table: &mut Table, row: Row) -> Result<(), AllocError>
+    ensures { OnOk result (table.new ≡ put_row table.old row) }
+{
+    let at = match key_of(&row) {
+        Some(key) => place_of(table.as_slice(), key),
+        None => table.len(),
+    };
+    table.insert(at, row)
+}
+
+// The place of a new key: before the first greater one, or at the end.
+fn place_of(table: &[Row], key: i64) -> usize
+    ensures place { result ≡ place_of table.now key }
+    ensures within { result ≤ length table.now }
+{
+    match first_after(table, key) {
+        Some(at) => at,
+        None => table.len(),
+    }
+}
+
+fn first_after(table: &[Row], key: i64) -> Option<usize>
+    ensures first { result ≡ position (comes_after key) table.now }
+    ensures within { IfSome result (λ at. at < length table.now) }
+{
+    table.iter().position(|row| comes_after(key, row))
+}
+
+fn comes_after(key: i64, row: &Row) -> bool
+    ensures { result ≡ comes_after key row.now }
+{
+    match key_of(row) {
+        Some(found) => found > key,
+        None => false,
+    }
+}
