@@ -1,0 +1,27 @@
+use Rattle.std.specs.Prelude.{ℕ, ◌+◌, ◌-◌, ◌^◌, min, List, Contains}
+
+-- which calls are to fail, by number from 1; how many calls were made; how many failed
+pub record CallLog : Type 0 where
+  pub failing : List ℕ
+  pub made : ℕ
+  pub faults : ℕ
+
+-- no call was made yet
+abbrev pub fresh_calls : List ℕ → CallLog
+fresh_calls failing = record { failing = failing; made = 0; faults = 0 }
+
+-- a counter's next value; it stands still at the end of its type
+abbrev pub next_count : ℕ → ℕ
+next_count n = min (n + 1) (2 ^ 64 - 1)
+
+-- the next call is one of those that are to fail
+abbrev pub IsToFail : CallLog → Type 0
+IsToFail c = Contains c.failing (next_count c.made)
+
+-- one call more, which did what it was for
+abbrev pub one_more : CallLog → CallLog
+one_more c = record c { made = next_count c.made }
+
+-- one call more, which failed
+abbrev pub one_failed : CallLog → CallLog
+one_failed c = record c { made = next_count c.made; faults = next_count c.faults }
