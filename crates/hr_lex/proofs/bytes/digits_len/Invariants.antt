@@ -1,0 +1,11 @@
+use Rattle.std.proofs.Common.{◌≡◌, ◌+◌, ◌-◌, ◌≤◌, length, drop}
+use Rattle.std.specs.List.{prefix_len}
+use Rattle.hr_lex.specs.Bytes.{is_digit}
+use Rattle.hr_lex.proofs.bytes.digits_len.Given as goal
+
+-- as far as the bytes went they are of the class
+abbrev pub invariant-loop-len : goal.invariant-loop-len
+invariant-loop-len l = (l.len + prefix_len is_digit (drop l.len l.bytes) ≡ prefix_len is_digit l.bytes) × (l.len ≤ length l.bytes)
+
+abbrev pub decreases-loop-len : goal.decreases-loop-len
+decreases-loop-len l = length l.bytes - l.len
