@@ -1,4 +1,4 @@
-ghost use Rattle.std.specs.Prelude.{◌≡◌, ◌↔◌, [], ◌∷◌, ◌++◌, length, IsTrue, IfOk, OnOk, OnErr};
+ghost use Rattle.std.specs.Prelude.{◌≡◌, ◌↔◌, [], ◌∷◌, ◌++◌, length, IsTrue, IfOk, OnOk, OnErr, IsSorted, IsPermutation};
 
 use crate::TryCopy;
 use std::alloc::{AllocError, Global};
@@ -73,6 +73,16 @@ impl<T: Drop> Seq<T> {
     {
         self.items.push(item)?;
         Ok(())
+    }
+}
+
+impl<T: Ord> Seq<T> {
+    /// Sorts the items in ascending order. Takes no memory; items that compare as equal may change places.
+    pub fn sort(&mut self)
+        ensures sorted { IsSorted T.cmp self.new }
+        ensures permutation { IsPermutation self.old self.new }
+    {
+        self.items.sort_unstable();
     }
 }
 
