@@ -1,4 +1,4 @@
-ghost use Rattle.std.specs.Prelude.{◌≡◌, ◌↔◌, [], ◌∷◌, ◌++◌, ◌<◌, ◌≤◌, length, insert, slice_set, IsTrue, IfOk, OnOk, OnErr};
+ghost use Rattle.std.specs.Prelude.{◌≡◌, ◌↔◌, [], ◌∷◌, ◌++◌, ◌<◌, ◌≤◌, length, insert, slice_set, IsTrue, IsSorted, IsPermutation, IfOk, OnOk, OnErr};
 
 use crate::TryCopy;
 use std::alloc::{AllocError, Global};
@@ -91,6 +91,16 @@ impl<T: Drop> Seq<T> {
         ensures { self.new ≡ slice_set self.old at item }
     {
         self.items[at] = item;
+    }
+}
+
+impl<T: Ord> Seq<T> {
+    /// Sorts the items in ascending order. Takes no memory; items that compare as equal may change places.
+    pub fn sort(&mut self)
+        ensures sorted { IsSorted T.cmp self.new }
+        ensures permutation { IsPermutation self.old self.new }
+    {
+        self.items.sort_unstable();
     }
 }
 
