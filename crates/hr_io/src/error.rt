@@ -3,13 +3,11 @@
 ghost use Rattle.std.specs.Prelude.{◌≡◌};
 ghost use Rattle.hr_io.specs.declared.error.ReadError.TheVariants.{Memory};
 
-use std::alloc::{AllocError, AllocFailed};
+use std::alloc::AllocError;
 use thiserror::Error;
 
-/// Memory was refused.
-#[derive(Clone, Copy, Debug, PartialEq, Eq, Error)]
-#[error("out of memory")]
-pub struct NoMemory;
+/// Memory was refused: std's own word for it, which every call that allocates may answer.
+pub type NoMemory = AllocError;
 
 /// A source or a sink failed at a call, and moved nothing in it.
 #[derive(Clone, Copy, Debug, PartialEq, Eq, Error)]
@@ -26,22 +24,6 @@ pub enum ReadError {
     Fault,
     #[error("out of memory")]
     Memory,
-}
-
-impl From<AllocError> for NoMemory {
-    ghost from_gives = { λ _ e. e ≡ record {} };
-
-    fn from(_refused: AllocError) -> NoMemory {
-        NoMemory
-    }
-}
-
-impl<T: Drop> From<AllocFailed<T>> for NoMemory {
-    ghost from_gives = { λ _ e. e ≡ record {} };
-
-    fn from(_refused: AllocFailed<T>) -> NoMemory {
-        NoMemory
-    }
 }
 
 impl From<AllocError> for ReadError {
