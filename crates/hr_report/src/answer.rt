@@ -17,9 +17,7 @@ pub fn push_answer(out: &mut String, answer: &Answer) -> Result<(), AllocError>
             writeln!(out, "rows {count}")?;
             push_rows(out, rows.as_slice())
         }
-        Answer::Count(count) => {
-            writeln!(out, "count {count}")
-        }
+        Answer::Count(count) => { writeln!(out, "count {count}") }
         Answer::Failed(error) => {
             write!(out, "failed ")?;
             push_error(out, error)?;

@@ -2,5 +2,6 @@
 #![tactic(auto)]
 
 mod answer;
+mod report;
 
-pub use answer::push_answer;
+pub use report::report_text;
