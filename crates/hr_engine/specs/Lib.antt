@@ -6,3 +6,4 @@ pub mod Base
 pub mod Rigorous
 pub mod Exact
 pub mod Backend
+pub mod Worked

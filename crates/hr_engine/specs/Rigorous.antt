@@ -11,11 +11,14 @@ use Rattle.hr_engine.specs.Waits.{wait, IsSoundBlocked, is_sound_deadlock}
 use Rattle.hr_engine.specs.Base.{base, IsSoundCount}
 use Rattle.hr_engine.specs.Lists.{is_distinct}
 
--- In whatever order running transactions are played, one after another from the base, their statements answer what they
--- were answered.
+-- Played one after another from the base, in this order, the transactions' attempts answer what they were answered.
+abbrev pub InOrder : Database → Journal → List ℕ → Type 0
+InOrder db journal ts =
+    AllZip (AllZip SameAnswer) (serial_answers (base db journal) (map (λ t. statements (attempt t journal)) ts)) (map (λ t. answers (attempt t journal)) ts)
+
+-- the running transactions, or some of them, could be played in any order
 abbrev pub AnyOrder : Database → Journal → Type 0
-AnyOrder db journal = (ts : List ℕ) → IsTrue (is_distinct ts) → IsTrue (list_all (λ t. is_running t journal) ts)
-    → AllZip (AllZip SameAnswer) (serial_answers (base db journal) (map (λ t. statements (attempt t journal)) ts)) (map (λ t. answers (attempt t journal)) ts)
+AnyOrder db journal = (ts : List ℕ) → IsTrue (is_distinct ts) → IsTrue (list_all (λ t. is_running t journal) ts) → InOrder db journal ts
 
 -- what a reply tells of waits and commits is sound, given the journal before it
 abbrev pub IsSound : Call → Journal → Type 0

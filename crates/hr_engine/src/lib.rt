@@ -7,6 +7,7 @@
 
 mod backend;
 mod reply;
+pub mod worked;
 
 pub use backend::Backend;
 pub use reply::{EndReply, Lost, RunReply, TxnId};

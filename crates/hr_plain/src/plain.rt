@@ -44,6 +44,18 @@ impl Plain {
         })
     }
 
+    /// A database of this catalog with these rows, a list of rows for each table.
+    pub fn with_rows(alloc: Global, catalog: &Catalog, rows: &Rows) -> Result<Plain, AllocError>
+        requires { length rows.now ≡ length catalog.now.tables }
+        ensures { IfOk result (λ plain. plain ≡ record { catalog = catalog.now; tables = rows.now }) }
+    {
+        Ok(Plain {
+            alloc,
+            catalog: catalog.try_copy(alloc)?,
+            tables: rows.try_copy(alloc)?,
+        })
+    }
+
     /// Runs a statement: the answer and what is left are those of its definition. One that doesn't fit the catalog
     /// fails as Unfit. Where memory runs out, nothing changes.
     pub fn run(&mut self, stmt: &Stmt) -> Result<Answer, AllocError>
@@ -102,4 +114,14 @@ fn rows_of(tables: &Rows, table: u32) -> &Table
     ensures { unwrap_or (slice_get tables.now table) [] ≡ result.now }
 {
     &tables.as_slice()[table as usize]
+}
+
+impl TryCopy for Plain {
+    fn try_copy(&self, alloc: Global) -> Result<Plain, AllocError> {
+        Ok(Plain {
+            alloc,
+            catalog: self.catalog.try_copy(alloc)?,
+            tables: self.tables.try_copy(alloc)?,
+        })
+    }
 }

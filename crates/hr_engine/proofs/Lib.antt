@@ -1,0 +1,4 @@
+pub mod SameAnswers
+pub mod Orders
+pub mod AttemptLaws
+pub mod WorkedLemmas

@@ -1,0 +1,47 @@
+-- The journals of the worked runs, over `table t (id int key, v int)`.
+use Rattle.std.specs.Prelude.{ℕ, Ok, List, [], ◌∷◌, reverse}
+use Rattle.hr_rel.specs.declared.answer.Answer.TheVariants.{Rows, Count}
+use Rattle.hr_rel.specs.Worked.{one, insert, select_v}
+use Rattle.hr_engine.specs.declared.reply.RunReply.TheVariants as run
+use Rattle.hr_engine.specs.declared.reply.EndReply.TheVariants as end
+use Rattle.hr_engine.specs.Journal.{Call, Ran, Committed, RolledBack, Restarted, Journal}
+
+-- the journal of these calls, made in this order
+abbrev pub in_order : List Call → Journal
+in_order calls = reverse calls
+
+-- transaction t inserts the row (id, v)
+abbrev pub inserts : ℕ → ℕ → ℕ → Call
+inserts t id v = Ran t (insert id v) (run.Done (Count 1))
+
+-- transaction t finds v at the key id
+abbrev pub finds : ℕ → ℕ → ℕ → Call
+finds t id v = Ran t (select_v id) (run.Done (Rows (one v ∷ [])))
+
+-- transaction t asks for the row with the key id and has to wait for one other
+abbrev pub waits_for : ℕ → ℕ → ℕ → Call
+waits_for t id other = Ran t (select_v id) (run.Blocked (other ∷ []))
+
+-- one transaction writes a row, another reads another row, and both are open
+abbrev pub two_open : Journal
+two_open = in_order (inserts 1 5 50 ∷ finds 2 1 10 ∷ [])
+
+-- transaction 2 reads a row of transaction 1, which is then rolled back
+abbrev pub read_uncommitted : Journal
+read_uncommitted = in_order (inserts 1 5 50 ∷ finds 2 5 50 ∷ RolledBack 1 end.Done ∷ [])
+
+-- two transactions wait for each other, and each was told to wait
+abbrev pub cycle_blocked : Journal
+cycle_blocked = in_order (inserts 1 5 50 ∷ inserts 2 6 60 ∷ waits_for 1 6 2 ∷ waits_for 2 5 1 ∷ [])
+
+-- transaction 2 waits for 1, which is rolled back and runs again
+abbrev pub runs_again : Journal
+runs_again = in_order (inserts 1 5 50 ∷ waits_for 2 5 1 ∷ RolledBack 1 end.Done ∷ inserts 1 5 50 ∷ [])
+
+-- a commit is answered Lost
+abbrev pub in_doubt : Journal
+in_doubt = in_order (inserts 1 5 50 ∷ Committed 1 end.Lost ∷ [])
+
+-- the restart after it tells this count
+abbrev pub restarted : ℕ → Journal
+restarted told = in_order (inserts 1 5 50 ∷ Committed 1 end.Lost ∷ Restarted (Ok told) ∷ [])
