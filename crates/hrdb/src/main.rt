@@ -1,0 +1,47 @@
+//! HRDB: one database made of several unlike ones, of which some may answer wrongly.
+//!
+//! `hrdb step` reads a scenario on standard input, runs its session at all replicas, and writes the report on standard
+//! output.
+#![tactic(auto)]
+
+mod fault;
+mod replay;
+mod status;
+mod top;
+#[cfg(test)]
+mod tests;
+
+pub use status::Status;
+pub use top::{run, top};
+
+use fault::{exit_code, fault_of};
+use hr_io::{OpenGate, StdSink, StdSource};
+use std::alloc::AllocError;
+use std::env;
+use std::io;
+use std::process::ExitCode;
+
+fn main(rt: HostRuntime) -> ExitCode {
+    let status = match words(&rt) {
+        Ok(words) => {
+            let mut source = StdSource::new(rt.stdin());
+            let mut sink = StdSink::new(rt.stdout());
+            top(&rt, rt.alloc(), &words, &mut source, &mut sink, &OpenGate)
+        }
+        Err(_) => Status::Memory,
+    };
+    if let Some(fault) = fault_of(&status) {
+        // Where standard error takes nothing, the exit code tells.
+        let _told = eprintln!(&rt; "{fault}");
+    }
+    exit_code(&status)
+}
+
+// The words behind the program's name.
+fn words(rt: &HostRuntime) -> io::Result<Vec<String>> {
+    let mut words = Vec::new(rt.alloc());
+    for word in env::args(rt)?.skip(1) {
+        words.push(word).map_err(AllocError::from)?;
+    }
+    Ok(words)
+}

@@ -1,0 +1,74 @@
+//! The program over any source and sink.
+ghost use Rattle.std.specs.Prelude.{◌≡◌};
+
+use crate::Status;
+use crate::replay::report_of;
+use hr_io::{Gate, Sink, Source, read_whole, write_whole};
+use hr_scenario::{InputKind, MAX_BYTES, read};
+use std::alloc::Global;
+use std::sync::Wait;
+use std::thread::Threads;
+
+/// Runs the command that the words name, reads from `source` and writes to `sink`. Refusals are looked for in the order
+/// Usage, ReadFault, Input, WriteFault; Memory may come at any point. `gate` is told of the calls of backends that run
+/// in threads.
+pub fn top<R: Threads + Wait + Sync, S: Source, K: Sink, G: Gate + Sync>(
+    _rt: &R,
+    alloc: Global,
+    words: &[String],
+    source: &mut S,
+    sink: &mut K,
+    _gate: &G,
+) -> Status {
+    run(alloc, words, source, sink)
+}
+
+/// Runs a command that needs no threads.
+pub fn run<S: Source, K: Sink>(alloc: Global, words: &[String], source: &mut S, sink: &mut K) -> Status {
+    if is_step(words) {
+        step(alloc, source, sink)
+    } else {
+        Status::Usage
+    }
+}
+
+fn is_step(words: &[String]) -> bool {
+    match words {
+        [word] => word.as_str() == "step",
+        _ => false,
+    }
+}
+
+// Reads a scenario, runs it, and writes its report. The report is made whole before any of it is written.
+fn step<S: Source, K: Sink>(alloc: Global, source: &mut S, sink: &mut K) -> Status {
+    let bytes = match read_whole(alloc, source, MAX_BYTES) {
+        Ok(bytes) => bytes,
+        Err(hr_io::ReadError::TooLong) => return too_long(),
+        Err(hr_io::ReadError::Fault) => return Status::ReadFault,
+        Err(hr_io::ReadError::Memory) => return Status::Memory,
+    };
+    let scenario = match read(alloc, &bytes) {
+        Ok(scenario) => scenario,
+        Err(hr_scenario::ReadError::Refused(error)) => {
+            return Status::Input {
+                line: error.line,
+                kind: error.kind,
+            };
+        }
+        Err(hr_scenario::ReadError::NoMemory) => return Status::Memory,
+    };
+    match report_of(alloc, &scenario) {
+        Ok(report) => match write_whole(sink, report.as_bytes()) {
+            Ok(()) => Status::Ok,
+            Err(hr_io::Failed) => Status::WriteFault,
+        },
+        Err(_) => Status::Memory,
+    }
+}
+
+fn too_long() -> Status {
+    Status::Input {
+        line: 0,
+        kind: InputKind::TooLong,
+    }
+}
