@@ -1,0 +1,21 @@
+-- Loops over an engine's words and over script lines: what is read so far, in front of what is read of the rest.
+use Rattle.std.proofs.Common.{◌≡◌, ℕ, ◌+◌, ◌-◌, ◌<◌, suc, Bool, true, false, cond, List, [], ◌∷◌, ◌++◌, Option, Some, None, Result, Ok, Err, length, length-append, ◌&&◌, refl, sym, ap, ◌∙◌, append_assoc, arith}
+use Rattle.std.specs.Option.{option_map}
+use Rattle.std.specs.Prelude.{codes}
+use Rattle.std.specs.Str.{bytes_eq}
+use Rattle.hr_scenario.specs.Lines.{Text, first_line, other_lines}
+use Rattle.hr_scenario.specs.Reading.{is_commit, kind_read, later, script_read, step_read, with_kinds, with_step, with_steps, words_read}
+use Rattle.hr_scenario.specs.declared.form.Step.{Step}
+use Rattle.hr_scenario.specs.declared.form.TableLine.{TableLine}
+use Rattle.hr_scenario.specs.declared.scenario.EngineKind.{EngineKind}
+
+one_kind_more : (front : List EngineKind) (kind : EngineKind) (o : Option (List EngineKind))
+    → with_kinds front (option_map (λ kinds. kind ∷ kinds) o) ≡ with_kinds (front ++ kind ∷ []) o
+one_kind_more front kind None = refl
+one_kind_more front kind (Some kinds) = ap (λ (all : List EngineKind). Some all) (sym (append_assoc front (kind ∷ []) kinds))
+
+pub words_step : (front : List EngineKind) (kind : EngineKind) (rest more : Text) (n m : ℕ)
+    → n ≡ suc m → Some (kind, more) ≡ kind_read rest
+    → with_kinds front (words_read n rest) ≡ with_kinds (front ++ kind ∷ []) (words_read m more)
+words_step front kind rest more n m is read =
+    rw (is, ← read) (one_kind_more front kind (words_read m more))

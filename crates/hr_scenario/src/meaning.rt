@@ -1,0 +1,115 @@
+//! What a scenario of the smallest form says.
+
+use crate::form::{Column, Form, Step, TableLine};
+use crate::scenario::{Block, Scenario};
+use hr_rel::{
+    Catalog, ColKind, ColRef, ColumnDef, Expr, InsertStmt, Item, Name, Op, Operand, Pred,
+    SelectStmt, Seq, Stmt, TableDef, Value,
+};
+use std::alloc::{AllocError, Global};
+use std::mem;
+
+/// A database of one empty table, and one session.
+pub fn scenario_of(alloc: Global, form: Form) -> Result<Scenario, AllocError> {
+    let catalog = catalog_of(alloc, &form.table)?;
+    let blocks = blocks_of(alloc, form.script.as_slice())?;
+    Ok(Scenario {
+        f: form.f,
+        kinds: form.kinds,
+        catalog,
+        rows: one(alloc, Seq::new(alloc))?,
+        scripts: one(alloc, blocks)?,
+    })
+}
+
+fn catalog_of(alloc: Global, table: &TableLine) -> Result<Catalog, AllocError> {
+    let mut columns = one(alloc, column_def(&table.key))?;
+    columns.push(column_def(&table.value))?;
+    let table = TableDef {
+        name: table.name,
+        columns,
+    };
+    Ok(Catalog {
+        tables: one(alloc, table)?,
+    })
+}
+
+/// A column of numbers that may not be NULL.
+fn column_def(name: &Name) -> ColumnDef {
+    ColumnDef {
+        name: *name,
+        kind: ColKind::Int,
+        nullable: false,
+        indexed: false,
+    }
+}
+
+/// The blocks of a script: the statements up to each COMMIT.
+fn blocks_of(alloc: Global, script: &[Step]) -> Result<Seq<Block>, AllocError> {
+    let mut blocks = Seq::new(alloc);
+    let mut stmts = Seq::new(alloc);
+    for step in script {
+        match stmt_of(alloc, step)? {
+            Some(stmt) => stmts.push(stmt)?,
+            None => {
+                let stmts = mem::replace(&mut stmts, Seq::new(alloc));
+                blocks.push(Block {
+                    stmts,
+                    commits: true,
+                })?;
+            }
+        }
+    }
+    Ok(blocks)
+}
+
+/// The statement of a step; COMMIT has none.
+fn stmt_of(alloc: Global, step: &Step) -> Result<Option<Stmt>, AllocError> {
+    match *step {
+        Step::Insert { key, value } => Ok(Some(Stmt::Insert(insert(alloc, key, value)?))),
+        Step::Select { column, key } => Ok(Some(Stmt::Select(select(alloc, column, key)?))),
+        Step::Commit => Ok(None),
+    }
+}
+
+fn insert(alloc: Global, key: i64, value: i64) -> Result<InsertStmt, AllocError> {
+    let mut row = one(alloc, Value::Int(key))?;
+    row.push(Value::Int(value))?;
+    Ok(InsertStmt {
+        table: 0,
+        rows: one(alloc, row)?,
+    })
+}
+
+fn select(alloc: Global, column: Column, key: i64) -> Result<SelectStmt, AllocError> {
+    let of_key = Operand::Col(ColRef {
+        entry: 0,
+        column: 0,
+    });
+    let filter = Pred::Compare(Op::Eq, of_key, Operand::Lit(Value::Int(key)));
+    let item = Item::Plain(Expr::Col(ColRef {
+        entry: 0,
+        column: place_of(column),
+    }));
+    Ok(SelectStmt {
+        tables: one(alloc, 0)?,
+        on: None,
+        filter: Some(filter),
+        items: one(alloc, item)?,
+        groups: Seq::new(alloc),
+    })
+}
+
+/// The column's place in the table, from 0.
+fn place_of(column: Column) -> u32 {
+    match column {
+        Column::Key => 0,
+        Column::Value => 1,
+    }
+}
+
+fn one<T: Drop>(alloc: Global, item: T) -> Result<Seq<T>, AllocError> {
+    let mut items = Seq::new(alloc);
+    items.push(item)?;
+    Ok(items)
+}
