@@ -1,0 +1,19 @@
+//! Statements of the SQL profile as text: the syntax tree, its parser, and its one canonical text.
+#![tactic(auto)]
+
+mod ast;
+mod change;
+mod cond;
+mod expr;
+mod list;
+mod name;
+mod operand;
+mod select;
+mod statement;
+mod word;
+mod words;
+
+pub use ast::{
+    AggWord, Ast, ColumnAst, CondAst, DeleteAst, EntryAst, ExprAst, ExprKind, InsertAst, ItemAst,
+    Items, JoinAst, LitAst, LiteralAst, NameAt, OperandAst, SelectAst, SetAst, TupleAst, UpdateAst,
+};

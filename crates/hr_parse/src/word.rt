@@ -1,0 +1,88 @@
+//! The words of a statement: its tokens with what they say.
+
+ghost use Rattle.std.specs.Prelude.{◌≡◌, true};
+ghost use Rattle.hr_parse.specs.Words as spec;
+
+use hr_rel::{Name, Op, Seq};
+
+/// A word that is always written alike, but for the case of its letters.
+#[derive(Clone, Copy, Debug, PartialEq, Eq)]
+pub enum Mark {
+    Select,
+    From,
+    Inner,
+    Join,
+    On,
+    Where,
+    Group,
+    By,
+    Insert,
+    Into,
+    Values,
+    Update,
+    Set,
+    Delete,
+    And,
+    Or,
+    Not,
+    Is,
+    Null,
+    Between,
+    In,
+    As,
+    Count,
+    Sum,
+    Min,
+    Max,
+    Begin,
+    Commit,
+    Rollback,
+    Order,
+    Limit,
+    Asc,
+    Desc,
+    LeftParen,
+    RightParen,
+    Comma,
+    Dot,
+    Semicolon,
+    Star,
+    Plus,
+    Minus,
+}
+
+/// What a token says.
+#[derive(Drop)]
+pub enum Word {
+    Fixed(Mark),
+    /// In small letters.
+    Name(Name),
+    Number(u64),
+    /// With doubled quotes once.
+    Text(Seq<u8>),
+    Compare(Op),
+}
+
+/// A word, and the place in the text at which it begins.
+#[derive(Drop)]
+pub struct Lexeme {
+    pub word: Word,
+    pub at: u32,
+}
+
+/// Whether two marks are the same.
+pub fn same_mark(a: Mark, b: Mark) -> bool
+    ensures value { result ≡ spec.same_mark a b }
+{
+    a == b
+}
+
+/// Whether the word is this mark.
+pub fn is_mark(mark: Mark, word: &Word) -> bool
+    ensures { result ≡ spec.is_mark mark word.now }
+{
+    match word {
+        Word::Fixed(other) => same_mark(mark, *other),
+        _ => false,
+    }
+}
