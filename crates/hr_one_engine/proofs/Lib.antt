@@ -1,0 +1,3 @@
+pub mod OneLock
+pub mod Steps
+pub mod Calls
