@@ -10,3 +10,5 @@ pub mod SuspectedPrimary
 pub mod BlockingLiar
 pub mod WaitWithoutBreak
 pub mod BarrierCalls
+pub mod Broken
+pub mod Views

@@ -1,62 +1,13 @@
-//! Worked histories.
+//! Histories worked out entry by entry, held against the definitions.
+//!
+//! Each function does nothing. What it ensures is computed from the definitions: that a history which follows the rules
+//! is faithful, and that one which doesn't isn't.
 #![tactic(auto)]
 
-ghost use Rattle.std.specs.Prelude.{◌≡◌, true};
-ghost use Rattle.hr_history.specs.History.{history_of};
-ghost use Rattle.hr_history.specs.Faithful.{is_faithful};
-ghost use Rattle.hr_history_worked.specs.InsertAndSelect.{insert_and_select};
-ghost use Rattle.hr_history_worked.specs.StaleVote.{stale_vote};
-ghost use Rattle.hr_history_worked.specs.LyingPrimary.{lying_primary};
-ghost use Rattle.hr_history_worked.specs.DeadlockAtPrimary.{deadlock_at_primary};
-ghost use Rattle.hr_history_worked.specs.DeadlockAtSecondary.{deadlock_at_secondary};
-ghost use Rattle.hr_history_worked.specs.LossAfterCommit.{loss_after_commit};
-ghost use Rattle.hr_history_worked.specs.WrongRestartCount.{wrong_restart_count};
-ghost use Rattle.hr_history_worked.specs.SuspectedPrimary.{suspected_primary};
-ghost use Rattle.hr_history_worked.specs.BlockingLiar.{blocking_liar};
-ghost use Rattle.hr_history_worked.specs.WaitWithoutBreak.{wait_without_break};
-ghost use Rattle.hr_history_worked.specs.BarrierCalls.{barrier_calls};
+mod broken;
+mod faithful;
+mod views;
 
-/// A session inserts a row and reads it back.
-pub fn insert_and_select()
-    ensures faithful { is_faithful 1 1 (history_of insert_and_select) ≡ true }
-{}
-
-pub fn stale_vote()
-    ensures faithful { is_faithful 1 2 (history_of stale_vote) ≡ true }
-{}
-
-pub fn lying_primary()
-    ensures faithful { is_faithful 1 2 (history_of lying_primary) ≡ true }
-{}
-
-pub fn deadlock_at_primary()
-    ensures faithful { is_faithful 1 2 (history_of deadlock_at_primary) ≡ true }
-{}
-
-pub fn deadlock_at_secondary()
-    ensures faithful { is_faithful 1 2 (history_of deadlock_at_secondary) ≡ true }
-{}
-
-pub fn loss_after_commit()
-    ensures faithful { is_faithful 1 1 (history_of loss_after_commit) ≡ true }
-{}
-
-pub fn wrong_restart_count()
-    ensures faithful { is_faithful 1 1 (history_of wrong_restart_count) ≡ true }
-{}
-
-pub fn suspected_primary()
-    ensures faithful { is_faithful 1 2 (history_of suspected_primary) ≡ true }
-{}
-
-pub fn blocking_liar()
-    ensures faithful { is_faithful 1 1 (history_of blocking_liar) ≡ true }
-{}
-
-pub fn wait_without_break()
-    ensures faithful { is_faithful 1 2 (history_of wait_without_break) ≡ true }
-{}
-
-pub fn barrier_calls()
-    ensures faithful { is_faithful 1 2 (history_of barrier_calls) ≡ true }
-{}
+pub use broken::{barrier_kept, conviction_rules, decision_rules, nothing_more_nothing_less, order_of_commits};
+pub use faithful::{barrier_calls, blocking_liar, deadlock_at_primary, deadlock_at_secondary, insert_and_select, loss_after_commit, lying_primary, stale_vote, suspected_primary, wait_without_break, wrong_restart_count};
+pub use views::{views_of_worked};
