@@ -12,3 +12,5 @@ pub mod WaitWithoutBreak
 pub mod BarrierCalls
 pub mod Broken
 pub mod Views
+pub mod States
+pub mod StaleVoteStates
