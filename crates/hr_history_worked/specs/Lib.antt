@@ -1,0 +1,16 @@
+pub mod Entries
+pub mod InsertAndSelect
+pub mod StaleVote
+pub mod LyingPrimary
+pub mod DeadlockAtPrimary
+pub mod DeadlockAtSecondary
+pub mod LossAfterCommit
+pub mod WrongRestartCount
+pub mod SuspectedPrimary
+pub mod BlockingLiar
+pub mod WaitWithoutBreak
+pub mod BarrierCalls
+pub mod Broken
+pub mod Views
+pub mod States
+pub mod StaleVoteStates
