@@ -1,5 +1,9 @@
 //! The program over any source and sink.
-ghost use Rattle.std.specs.Prelude.{◌≡◌};
+ghost use Rattle.std.specs.Prelude.{◌≡◌, ◌≢◌, ◌↔◌, ℕ, true, IsTrue, codes, string_bytes};
+ghost use Rattle.std.specs.Io.KnownBytes.{Keeps};
+ghost use Rattle.hr_io.specs.Faults.{Rose};
+ghost use Rattle.hr_scenario.specs.declared.error.InputKind.{InputKind};
+ghost use Rattle.hrdb.specs.Top.{IsCommand, IsStepped, IsCutOff, IsRefusedInput, is_silent};
 
 use crate::Status;
 use crate::replay::report_of;
@@ -19,12 +23,34 @@ pub fn top<R: Threads + Wait + Sync, S: Source, K: Sink, G: Gate + Sync>(
     source: &mut S,
     sink: &mut K,
     _gate: &G,
-) -> Status {
+) -> Status
+    ensures usage { (result ≡ Status.Usage) ↔ ¬ (IsCommand words.now) }
+    ensures unread { result ≡ Status.Usage → Keeps (S.left source.old) (S.left source.new) }
+    ensures ok { result ≡ Status.Ok → IsStepped (S.left source.old) (S.left source.new) (K.taken sink.old) (K.taken sink.new) }
+    ensures input { (line : ℕ) (kind : InputKind) → result ≡ Status.Input line kind
+        → IsRefusedInput (S.left source.old) (S.left source.new) record { line = line; kind = kind } }
+    ensures read_fault { result ≡ Status.ReadFault → Rose (S.faults source.old) (S.faults source.new) }
+    ensures write_fault { result ≡ Status.WriteFault → Rose (K.faults sink.old) (K.faults sink.new) }
+    ensures cut_off { result ≡ Status.WriteFault → IsCutOff (S.left source.old) (S.left source.new) (K.taken sink.old) (K.taken sink.new) }
+    ensures silent { is_silent result ≡ true → Keeps (K.taken sink.old) (K.taken sink.new) }
+    ensures no_audit { result ≢ Status.Differs }
+{
     run(alloc, words, source, sink)
 }
 
 /// Runs a command that needs no threads.
-pub fn run<S: Source, K: Sink>(alloc: Global, words: &[String], source: &mut S, sink: &mut K) -> Status {
+pub fn run<S: Source, K: Sink>(alloc: Global, words: &[String], source: &mut S, sink: &mut K) -> Status
+    ensures usage { (result ≡ Status.Usage) ↔ ¬ (IsCommand words.now) }
+    ensures unread { result ≡ Status.Usage → Keeps (S.left source.old) (S.left source.new) }
+    ensures ok { result ≡ Status.Ok → IsStepped (S.left source.old) (S.left source.new) (K.taken sink.old) (K.taken sink.new) }
+    ensures input { (line : ℕ) (kind : InputKind) → result ≡ Status.Input line kind
+        → IsRefusedInput (S.left source.old) (S.left source.new) record { line = line; kind = kind } }
+    ensures read_fault { result ≡ Status.ReadFault → Rose (S.faults source.old) (S.faults source.new) }
+    ensures write_fault { result ≡ Status.WriteFault → Rose (K.faults sink.old) (K.faults sink.new) }
+    ensures cut_off { result ≡ Status.WriteFault → IsCutOff (S.left source.old) (S.left source.new) (K.taken sink.old) (K.taken sink.new) }
+    ensures silent { is_silent result ≡ true → Keeps (K.taken sink.old) (K.taken sink.new) }
+    ensures no_audit { result ≢ Status.Differs }
+{
     if is_step(words) {
         step(alloc, source, sink)
     } else {
@@ -32,15 +58,33 @@ pub fn run<S: Source, K: Sink>(alloc: Global, words: &[String], source: &mut S, 
     }
 }
 
-fn is_step(words: &[String]) -> bool {
+fn is_step(words: &[String]) -> bool
+    ensures { IsTrue result ↔ IsCommand words.now }
+{
     match words {
-        [word] => word.as_str() == "step",
+        [word] => says_step(word),
         _ => false,
     }
 }
 
+fn says_step(word: &String) -> bool
+    ensures { IsTrue result ↔ (string_bytes word.now ≡ codes "step") }
+{
+    word.as_str() == "step"
+}
+
 // Reads a scenario, runs it, and writes its report. The report is made whole before any of it is written.
-fn step<S: Source, K: Sink>(alloc: Global, source: &mut S, sink: &mut K) -> Status {
+fn step<S: Source, K: Sink>(alloc: Global, source: &mut S, sink: &mut K) -> Status
+    ensures known { result ≢ Status.Usage }
+    ensures ok { result ≡ Status.Ok → IsStepped (S.left source.old) (S.left source.new) (K.taken sink.old) (K.taken sink.new) }
+    ensures input { (line : ℕ) (kind : InputKind) → result ≡ Status.Input line kind
+        → IsRefusedInput (S.left source.old) (S.left source.new) record { line = line; kind = kind } }
+    ensures read_fault { result ≡ Status.ReadFault → Rose (S.faults source.old) (S.faults source.new) }
+    ensures write_fault { result ≡ Status.WriteFault → Rose (K.faults sink.old) (K.faults sink.new) }
+    ensures cut_off { result ≡ Status.WriteFault → IsCutOff (S.left source.old) (S.left source.new) (K.taken sink.old) (K.taken sink.new) }
+    ensures silent { is_silent result ≡ true → Keeps (K.taken sink.old) (K.taken sink.new) }
+    ensures no_audit { result ≢ Status.Differs }
+{
     let bytes = match read_whole(alloc, source, MAX_BYTES) {
         Ok(bytes) => bytes,
         Err(hr_io::ReadError::TooLong) => return too_long(),
@@ -66,7 +110,9 @@ fn step<S: Source, K: Sink>(alloc: Global, source: &mut S, sink: &mut K) -> Stat
     }
 }
 
-fn too_long() -> Status {
+fn too_long() -> Status
+    ensures { result ≡ Status.Input 0 InputKind.TooLong }
+{
     Status::Input {
         line: 0,
         kind: InputKind::TooLong,
