@@ -125,3 +125,63 @@ impl TryCopy for Plain {
         })
     }
 }
+
+#[cfg(test)]
+mod tests {
+    use super::*;
+    use hr_rel::{ColKind, ColumnDef, Name, Row, TableDef, Value};
+    use std::test::Fail;
+
+    fn one<T: Drop>(alloc: Global, item: T) -> Result<Seq<T>, AllocError> {
+        let mut all = Seq::new(alloc);
+        all.push(item)?;
+        Ok(all)
+    }
+
+    fn row(alloc: Global, key: i64, value: i64) -> Result<Row, AllocError> {
+        let mut row = one(alloc, Value::Int(key))?;
+        row.push(Value::Int(value))?;
+        Ok(row)
+    }
+
+    fn insert(alloc: Global, key: i64, value: i64) -> Result<Stmt, AllocError> {
+        Ok(Stmt::Insert(InsertStmt {
+            table: 0,
+            rows: one(alloc, row(alloc, key, value)?)?,
+        }))
+    }
+
+    // A table `t` of two columns of numbers.
+    fn catalog(alloc: Global) -> Result<Catalog, AllocError> {
+        let Some(name) = Name::new(b"t") else {
+            unreachable!()
+        };
+        let column = ColumnDef {
+            name,
+            kind: ColKind::Int,
+            nullable: false,
+            indexed: false,
+        };
+        let mut columns = one(alloc, column)?;
+        columns.push(column)?;
+        let tables = one(alloc, TableDef { name, columns })?;
+        Ok(Catalog { tables })
+    }
+
+    #[test]
+    fn duplicate_key(rt: HostRuntime) -> Result<(), Fail> {
+        let alloc = rt.alloc();
+        let mut plain = Plain::new(alloc, &catalog(alloc)?)?;
+        for (key, value, want) in [
+            (5, 50, Answer::Count(1)),
+            (3, 30, Answer::Count(1)),
+            (5, 51, Answer::Failed(RunError::DuplicateKey(5))),
+        ] {
+            assert!(rt; plain.run(&insert(alloc, key, value)?)? == want);
+        }
+        let mut rows = one(alloc, row(alloc, 3, 30)?)?;
+        rows.push(row(alloc, 5, 50)?)?;
+        assert!(rt; plain.dump()? == one(alloc, rows)?);
+        Ok(())
+    }
+}

@@ -3,7 +3,7 @@ use std::alloc::{AllocError, Global};
 
 /// What a statement answers: the rows of a SELECT, the number of rows that another statement inserted, changed or
 /// removed, or the error at which it failed and changed nothing.
-#[derive(PartialEq, Eq, Drop)]
+#[derive(Debug, PartialEq, Eq, Drop)]
 pub enum Answer {
     Rows(Seq<Row>),
     Count(u64),

@@ -5,20 +5,20 @@ use std::alloc::{AllocError, Global};
 pub const MAX_COLUMNS: usize = 8;
 
 /// The tables of a database. No statement changes it.
-#[derive(Drop)]
+#[derive(Debug, Drop)]
 pub struct Catalog {
     pub tables: Seq<TableDef>,
 }
 
 /// A table: its name and its columns. Column 0 is the key.
-#[derive(Drop)]
+#[derive(Debug, Drop)]
 pub struct TableDef {
     pub name: Name,
     pub columns: Seq<ColumnDef>,
 }
 
 /// A column: its name, the kind of its values, whether NULL may stand in it, and whether it has an index.
-#[derive(Clone, Copy, PartialEq, Eq, Drop)]
+#[derive(Clone, Copy, Debug, PartialEq, Eq)]
 pub struct ColumnDef {
     pub name: Name,
     pub kind: ColKind,

@@ -10,7 +10,7 @@ pub struct ColRef {
 }
 
 /// An expression over the columns of the statement's table entries. `Add`, `Sub` and `Mul` are of numbers.
-#[derive(Drop)]
+#[derive(Debug, Drop)]
 pub enum Expr {
     Lit(Value),
     Col(ColRef),
@@ -20,7 +20,7 @@ pub enum Expr {
 }
 
 /// A condition, true, false or unknown on each row, as the standard's search condition.
-#[derive(Drop)]
+#[derive(Debug, Drop)]
 pub enum Pred {
     Compare(Op, Operand, Operand),
     IsNull(Operand),
@@ -41,7 +41,7 @@ pub enum Op {
 }
 
 /// One side of a comparison.
-#[derive(Clone, Copy, PartialEq, Eq)]
+#[derive(Clone, Copy, Debug, PartialEq, Eq)]
 pub enum Operand {
     Lit(Value),
     Col(ColRef),

@@ -12,6 +12,8 @@ mod point;
 mod seq;
 mod stmt;
 mod value;
+#[cfg(test)]
+mod tests;
 pub mod worked;
 
 pub use answer::{Answer, RunError};

@@ -7,6 +7,7 @@ ghost use Rattle.hr_rel.specs.Printable.{is_printable, IsText};
 
 use std::cmp::Ordering;
 use std::marker::Model;
+use std::{fmt, str};
 
 /// How many bytes a text holds at most.
 pub const NAME_LIMIT: usize = 64;
@@ -112,5 +113,14 @@ impl Ord for Name {
 
     fn cmp(&self, other: &Self) -> Ordering {
         self.bytes().cmp(other.bytes())
+    }
+}
+
+impl fmt::Debug for Name {
+    fn fmt<W: fmt::Write>(&self, f: &mut fmt::Formatter<W>) -> fmt::Result {
+        match str::from_utf8(self.bytes()) {
+            Ok(text) => write!(f, "{text:?}"),
+            Err(_) => Err(fmt::Error),
+        }
     }
 }

@@ -2,7 +2,7 @@ use crate::{ColRef, Expr, Pred, Row, Seq, TryCopy};
 use std::alloc::{AllocError, Global};
 
 /// A bound statement: names are turned into places, and tables are numbers into the catalog, from 0.
-#[derive(Drop)]
+#[derive(Debug, Drop)]
 pub enum Stmt {
     Select(SelectStmt),
     Insert(InsertStmt),
@@ -11,7 +11,7 @@ pub enum Stmt {
 }
 
 /// `SELECT items FROM tables [ON on] [WHERE filter] [GROUP BY groups]` over one or two table entries.
-#[derive(Drop)]
+#[derive(Debug, Drop)]
 pub struct SelectStmt {
     pub tables: Seq<u32>,
     pub on: Option<Pred>,
@@ -21,7 +21,7 @@ pub struct SelectStmt {
 }
 
 /// One column of a SELECT's answer.
-#[derive(Drop)]
+#[derive(Debug, Drop)]
 pub enum Item {
     Plain(Expr),
     CountAll,
@@ -32,14 +32,14 @@ pub enum Item {
 }
 
 /// `INSERT INTO table VALUES rows`: each row whole, in the table's order of columns.
-#[derive(Drop)]
+#[derive(Debug, Drop)]
 pub struct InsertStmt {
     pub table: u32,
     pub rows: Seq<Row>,
 }
 
 /// `UPDATE table SET sets [WHERE filter]`.
-#[derive(Drop)]
+#[derive(Debug, Drop)]
 pub struct UpdateStmt {
     pub table: u32,
     pub sets: Seq<Set>,
@@ -47,14 +47,14 @@ pub struct UpdateStmt {
 }
 
 /// One assignment of an UPDATE: the column's place from 0, and its new value.
-#[derive(Drop)]
+#[derive(Debug, Drop)]
 pub struct Set {
     pub column: u32,
     pub value: Expr,
 }
 
 /// `DELETE FROM table [WHERE filter]`.
-#[derive(Drop)]
+#[derive(Debug, Drop)]
 pub struct DeleteStmt {
     pub table: u32,
     pub filter: Option<Pred>,

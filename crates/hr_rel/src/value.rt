@@ -5,7 +5,7 @@ use std::alloc::{AllocError, Global};
 
 /// A value of a column. Values are ordered NULL first, then numbers, then texts by their bytes: the order of
 /// canonical answers and of grouping. A comparison in a condition knows NULL otherwise.
-#[derive(Clone, Copy, PartialEq, Eq, PartialOrd, Ord)]
+#[derive(Clone, Copy, Debug, PartialEq, Eq, PartialOrd, Ord)]
 pub enum Value {
     Null,
     Int(i64),

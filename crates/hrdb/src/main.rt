@@ -8,11 +8,13 @@ mod fault;
 mod replay;
 mod status;
 mod top;
+mod worked;
 #[cfg(test)]
 mod tests;
 
 pub use status::Status;
 pub use top::{run, top};
+pub use worked::{empty_commit, insert_and_select};
 
 use fault::{exit_code, fault_of};
 use hr_io::{OpenGate, StdSink, StdSource};

@@ -1,0 +1,25 @@
+use Rattle.std.proofs.Common.{ℕ, pos, List, ◌∷◌, [], refl, lit≤, rules}
+use Rattle.std.specs.Fmt.{digits}
+use Rattle.hr_scenario.specs.declared.form.Step.TheVariants.{Insert, Select}
+use Rattle.hr_scenario.specs.declared.form.Column.TheVariants.{Value}
+use Rattle.hrdb.specs.Worked.{insert_and_select}
+use Rattle.hrdb.proofs.worked.insert_and_select.Goals as goal
+
+pub returns-clause-scenario : goal.returns-clause-scenario
+unfolding digits
+returns-clause-scenario c = record {
+  form = insert_and_select;
+  small = lit≤ tt;
+  sound = record {
+    wrong = lit≤ tt;
+    replicas = refl;
+    table = record { name = search rules; key = search rules; value = search rules; differ = λ same. cc };
+    script = record { steps = search rules; few = lit≤ tt; closed = ((Insert (pos 5) (pos 50) ∷ Select Value (pos 5) ∷ []), refl) };
+  };
+  lines = refl;
+  says = refl;
+}
+
+pub returns-clause-report : goal.returns-clause-report
+unfolding digits
+returns-clause-report c = refl
