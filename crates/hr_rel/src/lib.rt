@@ -11,9 +11,9 @@ mod order;
 mod point;
 mod seq;
 mod stmt;
-mod value;
 #[cfg(test)]
 mod tests;
+mod value;
 pub mod worked;
 
 pub use answer::{Answer, RunError};

@@ -5,7 +5,10 @@ use std::alloc::{AllocError, Global};
 use std::fmt::Debug;
 use std::test::Fail;
 
-const KEY: ColRef = ColRef { entry: 0, column: 0 };
+const KEY: ColRef = ColRef {
+    entry: 0,
+    column: 0,
+};
 
 fn one<T: Drop>(alloc: Global, item: T) -> Result<Seq<T>, AllocError> {
     let mut all = Seq::new(alloc);

@@ -7,21 +7,19 @@
 mod fault;
 mod replay;
 mod status;
-mod top;
-mod worked;
 #[cfg(test)]
 mod tests;
-
-pub use status::Status;
-pub use top::{run, top};
-pub use worked::{empty_commit, insert_and_select};
+mod top;
+mod worked;
 
 use fault::{exit_code, fault_of};
 use hr_io::{OpenGate, StdSink, StdSource};
+pub use status::Status;
 use std::alloc::AllocError;
-use std::env;
-use std::io;
 use std::process::ExitCode;
+use std::{env, io};
+pub use top::{run, top};
+pub use worked::{empty_commit, insert_and_select};
 
 fn main(rt: HostRuntime) -> ExitCode {
     let status = match words(&rt) {

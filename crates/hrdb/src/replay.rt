@@ -52,7 +52,12 @@ fn first_script(scenario: &Scenario) -> &[Block]
     }
 }
 
-fn run_script(alloc: Global, shepherd: &mut Shepherd, replicas: &mut [Plain], blocks: &[Block]) -> Result<Ran, AllocError>
+fn run_script(
+    alloc: Global,
+    shepherd: &mut Shepherd,
+    replicas: &mut [Plain],
+    blocks: &[Block],
+) -> Result<Ran, AllocError>
     requires { length replicas.old ≡ 2 * shepherd.old.f + 1 }
     ensures log { (db : Database) → Hold db replicas.old → IfOk result (λ ran. ran.log.items ≡ serial_answers db (map statements_of blocks.now)) }
     ensures dumps { (db : Database) → Hold db replicas.old
@@ -64,7 +69,12 @@ fn run_script(alloc: Global, shepherd: &mut Shepherd, replicas: &mut [Plain], bl
 }
 
 // Runs blocks one after another, and answers each block's answers.
-fn run_blocks(alloc: Global, shepherd: &mut Shepherd, replicas: &mut [Plain], blocks: &[Block]) -> Result<Vec<Seq<Answer>>, AllocError>
+fn run_blocks(
+    alloc: Global,
+    shepherd: &mut Shepherd,
+    replicas: &mut [Plain],
+    blocks: &[Block],
+) -> Result<Vec<Seq<Answer>>, AllocError>
     requires { length replicas.old ≡ 2 * shepherd.old.f + 1 }
     ensures log { (db : Database) → Hold db replicas.old → IfOk result (λ log. log.items ≡ serial_answers db (map statements_of blocks.now)) }
     ensures replicas { (db : Database) → Hold db replicas.old → OnOk result (Hold (database_after db (map statements_of blocks.now)) replicas.new) }

@@ -8,9 +8,11 @@ use std::sync::Wait;
 use std::test::Fail;
 use std::thread::Threads;
 
-const HEAD: &[u8] = b"hrdb 1\nf 1\nreplicas table range table\ntable t (id int key, v int)\nsession\n";
+const HEAD: &[u8] =
+    b"hrdb 1\nf 1\nreplicas table range table\ntable t (id int key, v int)\nsession\n";
 
-const INSERT_AND_SELECT: &[u8] = b"INSERT INTO t VALUES (5, 50)\nSELECT v FROM t WHERE id = 5\nCOMMIT\nend\n";
+const INSERT_AND_SELECT: &[u8] =
+    b"INSERT INTO t VALUES (5, 50)\nSELECT v FROM t WHERE id = 5\nCOMMIT\nend\n";
 
 const INSERTED: &[u8] = b"hrdb report 1
 commits 1
@@ -61,7 +63,15 @@ const SOUND: Outside = Outside {
 };
 
 // Runs the program and compares its status and what it wrote.
-fn expect<R: Threads + Wait + Abort + Sync>(rt: &R, alloc: Global, words: &[&str], input: &[&[u8]], outside: Outside, status: Status, written: &[u8]) -> Result<(), Fail>
+fn expect<R: Threads + Wait + Abort + Sync>(
+    rt: &R,
+    alloc: Global,
+    words: &[&str],
+    input: &[&[u8]],
+    outside: Outside,
+    status: Status,
+    written: &[u8],
+) -> Result<(), Fail>
     requires { 0 < outside.piece }
 {
     let mut bytes = Vec::new(alloc);
@@ -73,7 +83,12 @@ fn expect<R: Threads + Wait + Abort + Sync>(rt: &R, alloc: Global, words: &[&str
         all.push(String::from_str(alloc, word)?)?;
     }
     let mut source = MemSource::new(bytes, outside.piece, [outside.read_fails].to_vec(alloc)?);
-    let mut sink = MemSink::new(alloc, outside.piece, 1000, [outside.write_fails].to_vec(alloc)?)?;
+    let mut sink = MemSink::new(
+        alloc,
+        outside.piece,
+        1000,
+        [outside.write_fails].to_vec(alloc)?,
+    )?;
     let told = top(rt, alloc, &all, &mut source, &mut sink, &OpenGate);
     assert_eq!(rt; told, status);
     assert_eq!(rt; sink.bytes(), written);
@@ -82,22 +97,47 @@ fn expect<R: Threads + Wait + Abort + Sync>(rt: &R, alloc: Global, words: &[&str
 
 #[test]
 fn insert_and_select(rt: HostRuntime) -> Result<(), Fail> {
-    expect(&rt, rt.alloc(), &["step"], &[HEAD, INSERT_AND_SELECT], SOUND, Status::Ok, INSERTED)
+    expect(
+        &rt,
+        rt.alloc(),
+        &["step"],
+        &[HEAD, INSERT_AND_SELECT],
+        SOUND,
+        Status::Ok,
+        INSERTED,
+    )
 }
 
 #[test]
 fn empty_commit(rt: HostRuntime) -> Result<(), Fail> {
-    expect(&rt, rt.alloc(), &["step"], &[HEAD, b"COMMIT\nend\n"], SOUND, Status::Ok, EMPTY)
+    expect(
+        &rt,
+        rt.alloc(),
+        &["step"],
+        &[HEAD, b"COMMIT\nend\n"],
+        SOUND,
+        Status::Ok,
+        EMPTY,
+    )
 }
 
 #[test]
 fn retries_unbuilt(rt: HostRuntime) -> Result<(), Fail> {
-    let head: &[u8] = b"hrdb 1\nf 1\nreplicas table range table\nretries 1\ntable t (id int key, v int)\nsession\n";
+    let head: &[u8] =
+        b"hrdb 1\nf 1\nreplicas table range table\nretries 1\ntable t (id int key, v int)\nsession\n";
     let unbuilt = Status::Input {
         line: 4,
         kind: InputKind::Unbuilt,
     };
-    expect(&rt, rt.alloc(), &["step"], &[head, INSERT_AND_SELECT], SOUND, unbuilt, b"")
+    expect(
+        &rt,
+        rt.alloc(),
+        &["step"],
+        &[head, INSERT_AND_SELECT],
+        SOUND,
+        unbuilt,
+        b"",
+    )
 }
 
 #[test]
@@ -112,7 +152,15 @@ fn words_that_are_no_command(rt: HostRuntime) -> Result<(), Fail> {
         &["load", "1", "1", "1"],
     ];
     for words in cases {
-        expect(&rt, rt.alloc(), words, &[HEAD, INSERT_AND_SELECT], SOUND, Status::Usage, b"")?;
+        expect(
+            &rt,
+            rt.alloc(),
+            words,
+            &[HEAD, INSERT_AND_SELECT],
+            SOUND,
+            Status::Usage,
+            b"",
+        )?;
     }
     Ok(())
 }
@@ -132,7 +180,15 @@ fn inputs_that_are_refused(rt: HostRuntime) -> Result<(), Fail> {
     let mut parts = [most.as_slice(); 1025];
     parts[1024] = b"#";
     expect(&rt, rt.alloc(), &["step"], &parts, SOUND, too_long, b"")?;
-    expect(&rt, rt.alloc(), &["step"], &parts[..1024], SOUND, unbuilt_first, b"")
+    expect(
+        &rt,
+        rt.alloc(),
+        &["step"],
+        &parts[..1024],
+        SOUND,
+        unbuilt_first,
+        b"",
+    )
 }
 
 #[test]
@@ -147,7 +203,15 @@ fn source_fails(rt: HostRuntime) -> Result<(), Fail> {
                 read_fails,
                 write_fails: 0,
             };
-            expect(&rt, rt.alloc(), &["step"], &[HEAD, INSERT_AND_SELECT], outside, Status::ReadFault, b"")?;
+            expect(
+                &rt,
+                rt.alloc(),
+                &["step"],
+                &[HEAD, INSERT_AND_SELECT],
+                outside,
+                Status::ReadFault,
+                b"",
+            )?;
         }
     }
     Ok(())
@@ -164,7 +228,15 @@ fn sink_fails(rt: HostRuntime) -> Result<(), Fail> {
                 write_fails: written as u64 + 1,
             };
             let front = written.saturating_mul(piece).min(INSERTED.len());
-            expect(&rt, rt.alloc(), &["step"], &[HEAD, INSERT_AND_SELECT], outside, Status::WriteFault, &INSERTED[..front])?;
+            expect(
+                &rt,
+                rt.alloc(),
+                &["step"],
+                &[HEAD, INSERT_AND_SELECT],
+                outside,
+                Status::WriteFault,
+                &INSERTED[..front],
+            )?;
         }
     }
     Ok(())

@@ -39,7 +39,12 @@ pub fn top<R: Threads + Wait + Sync, S: Source, K: Sink, G: Gate + Sync>(
 }
 
 /// Runs a command that needs no threads.
-pub fn run<S: Source, K: Sink>(alloc: Global, words: &[String], source: &mut S, sink: &mut K) -> Status
+pub fn run<S: Source, K: Sink>(
+    alloc: Global,
+    words: &[String],
+    source: &mut S,
+    sink: &mut K,
+) -> Status
     ensures usage { (result ≡ Status.Usage) ↔ ¬ (IsCommand words.now) }
     ensures unread { result ≡ Status.Usage → Keeps (S.left source.old) (S.left source.new) }
     ensures ok { result ≡ Status.Ok → IsStepped (S.left source.old) (S.left source.new) (K.taken sink.old) (K.taken sink.new) }

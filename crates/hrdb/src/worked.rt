@@ -10,12 +10,10 @@ ghost use Rattle.hrdb.specs.Worked.{insert_and_select, insert_and_select_input, 
 pub fn insert_and_select()
     ensures scenario { IsScenario insert_and_select_input (scenario_of insert_and_select) }
     ensures report { report_of (scenario_of insert_and_select) ≡ insert_and_select_report }
-{
-}
+{}
 
 /// A session commits a transaction without statements.
 pub fn empty_commit()
     ensures scenario { IsScenario empty_commit_input (scenario_of empty_commit) }
     ensures report { report_of (scenario_of empty_commit) ≡ empty_commit_report }
-{
-}
+{}

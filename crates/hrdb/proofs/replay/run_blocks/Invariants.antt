@@ -10,6 +10,6 @@ abbrev pub invariant-script : goal.invariant-script
 invariant-script l = record {
   shepherd : l.shepherd.f ≡ l.fn.shepherd.f;
   ran : (db : Database) → Hold db l.fn.replicas → (now : Database) × Hold now l.replicas
-    × (l.log.items ++ serial_answers now (map statements_of (drop l.block-index l.blocks)) ≡ serial_answers db (map statements_of l.blocks))
-    × (database_after now (map statements_of (drop l.block-index l.blocks)) ≡ database_after db (map statements_of l.blocks));
+      × (l.log.items ++ serial_answers now (map statements_of (drop l.block-index l.blocks)) ≡ serial_answers db (map statements_of l.blocks))
+      × (database_after now (map statements_of (drop l.block-index l.blocks)) ≡ database_after db (map statements_of l.blocks));
 }
