@@ -1,0 +1,7 @@
+pub mod Script
+pub mod Told
+pub mod Make
+pub mod Wraps
+pub mod MakeTells
+pub mod Resolves
+pub mod Losses

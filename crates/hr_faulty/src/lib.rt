@@ -1,0 +1,8 @@
+//! A backend that lies by a script, over any other backend.
+#![tactic(auto)]
+
+mod faulty;
+mod script;
+
+pub use faulty::Faulty;
+pub use script::{Act, Fault, When};
