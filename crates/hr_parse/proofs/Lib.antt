@@ -1,0 +1,5 @@
+pub mod Marks
+pub mod Rules
+pub mod Stops
+pub mod Operands
+pub mod Conditions
