@@ -1,5 +1,5 @@
 -- The readers of names, columns, literals, operands and lists read what the grammar says.
-use Rattle.std.proofs.Common.{◌≡◌, ◌≤◌, ◌<◌, ℕ, zero, suc, ◌+◌, ◌*◌, ◌^◌, ℤ, pos, Bool, true, false, cond, nat_le, nat_lt, if◌then◌else◌, List, [], ◌∷◌, ◌++◌, length, Option, Some, None, Result, Ok, Err, ap, subst, refl, sym, ◌∙◌, rules, arith, append_assoc}
+use Rattle.std.proofs.Common.{◌≡◌, ◌≤◌, ◌<◌, ℕ, zero, suc, ◌+◌, ◌*◌, ◌^◌, ℤ, pos, Bool, true, false, cond, nat_le, nat_lt, if◌then◌else◌, List, [], ◌∷◌, ◌++◌, length, Option, Some, None, Result, Ok, Err, inl, inr, ap, subst, refl, sym, ◌∙◌, rules, arith, append_assoc}
 use Rattle.std.proofs.lemmas.List.{append-nil, length-append}
 use Rattle.std.specs.Option.{option_map}
 use Rattle.std.proofs.lemmas.Bool.Decides.{nat_tests}
@@ -21,7 +21,7 @@ use Rattle.hr_parse.specs.Words.{is_mark, mark, named, number, text, compare, sa
 use Rattle.hr_parse.specs.Trees.{minus}
 use Rattle.hr_parse.specs.Reading.{Outcome, Reader, and_then, ◌>>=◌, pure, refuse, sees, place, expect, ahead, ahead_at, optional, name_of, name, column, sees_name, at_name, literal_by, negative_word, constant_word, negated, plain, negative, constant, literal, operand_at, listed_behind, listed}
 use Rattle.hr_parse.specs.Grammar.{Optional, Listed, IsName, IsColumn, IsLiteral, IsOperand}
-use Rattle.hr_parse.proofs.Rules.{Stops, Got, Stuck, Rule, Seq, Map, Done, IsMark, Ahead, Only, Either, rule_iso, rule_seq, rule_map, rule_pure, rule_expect, rule_weak, rule_ahead, rule_only, rule_at_name, ok_parts}
+use Rattle.hr_parse.proofs.Rules.{Stops, Got, Stuck, Whole, Rule, Seq, Map, Done, IsMark, Ahead, Only, Either, rule_iso, rule_seq, rule_map, rule_pure, rule_expect, rule_weak, rule_ahead, rule_only, rule_at_name, ok_parts}
 use Rattle.hr_parse.proofs.Stops.{any, stops_here, stops_rest, Through, through_optional, through_map}
 
 -- a length that the number of turns allows
@@ -83,10 +83,14 @@ rule_test test y b example = record {
   some = Tested.tested y b example;
   got = test_all test y b example;
   stuck = test_stuck test y b example;
-  whole = λ u a l p t st. test_whole test u a l t;
+  whole = λ u a l t st. inl (test_whole test u a l t);
 }
 
 -- a reader that is the same function
+alike_read : {A : Type 0} {f : Reader A} {P : ℕ → Type 0} (g : Reader A) → ((s : List Lexeme) → g s ≡ f s) → (s : List Lexeme) (a : A) (t : List Lexeme) → Whole f P s a t → Whole g P s a t
+alike_read g e s a t (inl k) = inl (e s ∙ k)
+alike_read g e s a t (inr k) = inr (record { front = k.front; rest = k.rest; split = k.split; stops = e s ∙ k.stops; late = k.late })
+
 pub rule_alike : {A : Type 0} {f : Reader A} {L : List Lexeme → A → Type 0} {c : Lexeme → Bool} {P : ℕ → Type 0} (g : Reader A) → ((s : List Lexeme) → g s ≡ f s) → Rule f L c P → Rule g L c P
 rule_alike {f = f} {L = L} g e r = record {
   words = r.words;
@@ -94,7 +98,7 @@ rule_alike {f = f} {L = L} g e r = record {
   some = r.some;
   got = λ s t a h. let one : Got f L s a t = r.got s t a (sym (e s) ∙ h) in record { front = one.front; split = one.split; gives = one.gives; same = λ x v w d. e (one.front ++ (x ∷ w)) ∙ one.same x v w d };
   stuck = λ s t h. let one : Stuck f L s t = r.stuck s t (sym (e s) ∙ h) in record { front = one.front; split = one.split; more = one.more; tree = one.tree; gives = one.gives; same = λ x v w d. e (one.front ++ (x ∷ w)) ∙ one.same x v w d };
-  whole = λ u a l p t st. e (u ++ t) ∙ r.whole u a l p t st;
+  whole = λ u a l t st. alike_read g e (u ++ t) a t (r.whole u a l t st);
 }
 
 -- ---- names
@@ -326,7 +330,7 @@ rule_refuse u a l none = record {
   some = l;
   got = λ s t b e. absurd (cc);
   stuck = λ s t e. let q : s ≡ t = cc in record { front = []; split = q; more = u; tree = a; gives = l; same = λ x v w d. refl };
-  whole = λ w b k p t st. absurd (none (length w) p);
+  whole = λ w b k t st. inr (record { front = []; rest = w ++ t; split = refl; stops = refl; late = none 0 });
 }
 
 data Behind {A : Type 0} (L : List Lexeme → A → Type 0) (front : List A) : List Lexeme → List A → Type 0 where

@@ -34,16 +34,27 @@ pub record Stuck {A : Type 0} (f : Reader A) (L : List Lexeme → A → Type 0) 
   pub gives : L (front ++ more) tree
   pub same : Same f front t (λ w. Err w)
 
+-- the reader stops where more turns than fit would be needed
+pub record Late {A : Type 0} (f : Reader A) (P : ℕ → Type 0) (s : List Lexeme) : Type 0 where
+  pub front : List Lexeme
+  pub rest : List Lexeme
+  pub split : s ≡ front ++ rest
+  pub stops : f s ≡ Err rest
+  pub late : P (length front) → ⊥
+
+abbrev pub Whole : {A : Type 0} → Reader A → (ℕ → Type 0) → List Lexeme → A → List Lexeme → Type 0
+Whole f P s a t = (f s ≡ Ok (a, t)) ⊎ Late f P s
+
 -- The reader reads the language: what it gives is in the language; where it stops, what it took can go on to
--- something in the language, and both depend on no word behind the first that wasn't taken. What is in the language,
--- with a length that fits, is read where what follows stops it.
+-- something in the language, and both depend on no word behind the first that wasn't taken. What is in the language
+-- is read where what follows stops it, unless it takes more turns than fit.
 pub record Rule {A : Type 0} (f : Reader A) (L : List Lexeme → A → Type 0) (c : Lexeme → Bool) (P : ℕ → Type 0) : Type 0 where
   pub words : List Lexeme
   pub tree : A
   pub some : L words tree
   pub got : (s t : List Lexeme) (a : A) → f s ≡ Ok (a, t) → Got f L s a t
   pub stuck : (s t : List Lexeme) → f s ≡ Err t → Stuck f L s t
-  pub whole : (u : List Lexeme) (a : A) → L u a → P (length u) → (t : List Lexeme) → Stops c t → f (u ++ t) ≡ Ok (a, t)
+  pub whole : (u : List Lexeme) (a : A) → L u a → (t : List Lexeme) → Stops c t → Whole f P (u ++ t) a t
 
 -- ---- languages of the parts of rules
 
@@ -74,7 +85,7 @@ rule_iso to of r = record {
   some = to r.words r.tree r.some;
   got = λ s t a e. let g = r.got s t a e in record { front = g.front; split = g.split; gives = to g.front a g.gives; same = g.same };
   stuck = λ s t e. let g = r.stuck s t e in record { front = g.front; split = g.split; more = g.more; tree = g.tree; gives = to (g.front ++ g.more) g.tree g.gives; same = g.same };
-  whole = λ u a l p t st. r.whole u a (of u a l) p t st;
+  whole = λ u a l t st. r.whole u a (of u a l) t st;
 }
 
 -- ---- outcomes
@@ -148,12 +159,32 @@ module _ {A B : Type 0} (f : Reader A) (g : A → Reader B) (L : List Lexeme →
       inl h ↦ stuck_first first second s t h
     | inr k ↦ stuck_second first second s t k.0.0 k.0.1 k.1 k.2 ]
 
+  seq_later : (u m : List Lexeme) (a : A) (b : B) (t : List Lexeme) → f (u ++ m) ≡ Ok (a, m) → ((i j : ℕ) → R (i + j) → P i × Q j) → Whole (g a) Q m b t → Whole (f >>= g) R (u ++ m) b t
+  seq_later u m a b t e parts (inl k) = inl (rw e k)
+  seq_later u m a b t e parts (inr k) = inr (record {
+      front = u ++ k.front;
+      rest = k.rest;
+      split = ap (λ z. u ++ z) k.split ∙ sym (append_assoc u k.front k.rest);
+      stops = rw e k.stops;
+      late = λ r. k.late (parts (length u) (length k.front) (subst R (length-append u k.front) r)).1;
+    })
+
+  seq_read : (u m : List Lexeme) (a : A) (b : B) (t : List Lexeme) → ((i j : ℕ) → R (i + j) → P i × Q j) → Whole f P (u ++ m) a m → Whole (g a) Q m b t → Whole (f >>= g) R (u ++ m) b t
+  seq_read u m a b t parts (inl e) second = seq_later u m a b t e parts second
+  seq_read u m a b t parts (inr k) second = inr (record {
+      front = k.front;
+      rest = k.rest;
+      split = k.split;
+      stops = rw k.stops refl;
+      late = λ r. let same : length k.front ≡ length k.front + 0 = omega arith in k.late (parts (length k.front) 0 (subst R same r)).0;
+    })
+
   seq_whole : Rule f L c P → ((a : A) → Rule (g a) (M a) d Q) → ((i j : ℕ) → R (i + j) → P i × Q j)
       → ((a : A) (v : List Lexeme) (b : B) (t : List Lexeme) → M a v b → Stops d t → Stops c (v ++ t))
-      → (w : List Lexeme) (b : B) → Seq L M w b → R (length w) → (t : List Lexeme) → Stops d t → (f >>= g) (w ++ t) ≡ Ok (b, t)
-  seq_whole first second parts follows w b (Seq.seq {u} {v} {a} l m) fits t st =
-      let both : P (length u) × Q (length v) = parts (length u) (length v) (subst R (length-append u v) fits) in
-      rw (append_assoc u v t, first.whole u a l both.0 (v ++ t) (follows a v b t m st)) ((second a).whole v b m both.1 t st)
+      → (w : List Lexeme) (b : B) → Seq L M w b → (t : List Lexeme) → Stops d t → Whole (f >>= g) R (w ++ t) b t
+  seq_whole first second parts follows w b (Seq.seq {u} {v} {a} l m) t st =
+      let k : Whole (f >>= g) R (u ++ (v ++ t)) b t = seq_read u (v ++ t) a b t parts (first.whole u a l (v ++ t) (follows a v b t m st)) ((second a).whole v b m t st) in
+      subst (λ (z : List Lexeme). Whole (f >>= g) R z b t) (sym (append_assoc u v t)) k
 
 pub rule_seq : {A B : Type 0} {f : Reader A} {g : A → Reader B} {L : List Lexeme → A → Type 0} {M : A → List Lexeme → B → Type 0} {c d : Lexeme → Bool} {P Q : ℕ → Type 0} (R : ℕ → Type 0)
     → Rule f L c P → ((a : A) → Rule (g a) (M a) d Q) → ((i j : ℕ) → R (i + j) → P i × Q j)
@@ -177,9 +208,13 @@ map_err : {A B : Type 0} (h : A → B) (r : Outcome A) (t : List Lexeme) → and
 map_err h (Ok p) t e = absurd (cc)
 map_err h (Err w) t e = let q : w ≡ t = cc in ap Err q
 
+map_read : {A B : Type 0} {f : Reader A} {P : ℕ → Type 0} (h : A → B) (s : List Lexeme) (a : A) (t : List Lexeme) → Whole f P s a t → Whole (f >>= (λ a. pure (h a))) P s (h a) t
+map_read h s a t (inl e) = inl (rw e refl)
+map_read h s a t (inr k) = inr (record { front = k.front; rest = k.rest; split = k.split; stops = rw k.stops refl; late = k.late })
+
 map_whole : {A B : Type 0} {f : Reader A} {L : List Lexeme → A → Type 0} {c : Lexeme → Bool} {P : ℕ → Type 0} (h : A → B) → Rule f L c P
-    → (u : List Lexeme) (b : B) → Map h L u b → P (length u) → (t : List Lexeme) → Stops c t → (f >>= (λ a. pure (h a))) (u ++ t) ≡ Ok (b, t)
-map_whole h r w b (Map.map {u} {a} l) p t st = rw (r.whole u a l p t st) refl
+    → (u : List Lexeme) (b : B) → Map h L u b → (t : List Lexeme) → Stops c t → Whole (f >>= (λ a. pure (h a))) P (u ++ t) b t
+map_whole h r w b (Map.map {u} {a} l) t st = map_read h (u ++ t) a t (r.whole u a l t st)
 
 pub rule_map : {A B : Type 0} {f : Reader A} {L : List Lexeme → A → Type 0} {c : Lexeme → Bool} {P : ℕ → Type 0} (h : A → B) → Rule f L c P
     → Rule (f >>= (λ a. pure (h a))) (Map h L) c P
@@ -217,7 +252,7 @@ rule_pure a = record {
   some = Done.done;
   got = λ s t b e. pure_got a s t b e;
   stuck = λ s t e. absurd (cc);
-  whole = λ u b l p t st. pure_whole a u b l t;
+  whole = λ u b l t st. inl (pure_whole a u b l t);
 }
 
 -- ---- a mark that has to come
@@ -262,10 +297,14 @@ rule_expect m = record {
   some = IsMark.the 0;
   got = λ s t b e. expect_got m s t b e;
   stuck = λ s t e. expect_stuck m s t e;
-  whole = λ u b l p t st. expect_whole m u b l t;
+  whole = λ u b l t st. inl (expect_whole m u b l t);
 }
 
 -- ---- other stops and lengths
+
+weak_read : {A : Type 0} {f : Reader A} {P Q : ℕ → Type 0} {s : List Lexeme} {a : A} {t : List Lexeme} → ((i : ℕ) → Q i → P i) → Whole f P s a t → Whole f Q s a t
+weak_read fits (inl e) = inl e
+weak_read fits (inr k) = inr (record { front = k.front; rest = k.rest; split = k.split; stops = k.stops; late = λ q. k.late (fits (length k.front) q) })
 
 pub rule_weak : {A : Type 0} {f : Reader A} {L : List Lexeme → A → Type 0} {c : Lexeme → Bool} {P : ℕ → Type 0} (d : Lexeme → Bool) (Q : ℕ → Type 0)
     → ((t : List Lexeme) → Stops d t → Stops c t) → ((i : ℕ) → Q i → P i) → Rule f L c P → Rule f L d Q
@@ -275,7 +314,7 @@ rule_weak d Q stops fits r = record {
   some = r.some;
   got = r.got;
   stuck = r.stuck;
-  whole = λ u a l p t st. r.whole u a l (fits (length u) p) t (stops t st);
+  whole = λ u a l t st. weak_read fits (r.whole u a l t (stops t st));
 }
 
 -- ---- by the first word
@@ -323,10 +362,19 @@ module _ {A : Type 0} (m : Mark) (f : ℕ → Reader A) (g : Reader A) (L : ℕ 
         same = λ x v w d. rw h (one.same x v w d);
       }
 
+  ahead_this : ((i : ℕ) → P (suc i) → Q i) → (p : ℕ) (s : List Lexeme) (a : A) (t : List Lexeme) → Whole (f p) Q s a t → Whole (ahead_at m f g) P (mark m p ∷ s) a t
+  ahead_this shorter p s a t (inl e) = inl (rw (mark_self m) e)
+  ahead_this shorter p s a t (inr k) = inr (record {
+      front = mark m p ∷ k.front; rest = k.rest; split = ap (λ z. mark m p ∷ z) k.split; stops = rw (mark_self m) k.stops; late = λ q. k.late (shorter (length k.front) q) })
+
+  ahead_other : (s : List Lexeme) (a : A) (t : List Lexeme) → sees m s ≡ false → Whole g P s a t → Whole (ahead_at m f g) P s a t
+  ahead_other s a t h (inl e) = inl (rw h e)
+  ahead_other s a t h (inr k) = inr (record { front = k.front; rest = k.rest; split = k.split; stops = rw h k.stops; late = k.late })
+
   ahead_whole : ((i : ℕ) → P (suc i) → Q i) → ((u : List Lexeme) (a : A) (t : List Lexeme) → M u a → Stops c t → sees m (u ++ t) ≡ false)
-      → (w : List Lexeme) (a : A) → Ahead m L M w a → P (length w) → (t : List Lexeme) → Stops c t → ahead_at m f g (w ++ t) ≡ Ok (a, t)
-  ahead_whole shorter apart w a (Ahead.this p {u} l) fits t st = rw (mark_self m) ((here p).whole u a l (shorter (length u) fits) t st)
-  ahead_whole shorter apart w a (Ahead.other l) fits t st = rw (apart w a t l st) (there.whole w a l fits t st)
+      → (w : List Lexeme) (a : A) → Ahead m L M w a → (t : List Lexeme) → Stops c t → Whole (ahead_at m f g) P (w ++ t) a t
+  ahead_whole shorter apart w a (Ahead.this p {u} l) t st = ahead_this shorter p (u ++ t) a t ((here p).whole u a l t st)
+  ahead_whole shorter apart w a (Ahead.other l) t st = ahead_other (w ++ t) a t (apart w a t l st) (there.whole w a l t st)
 
 pub rule_ahead : {A : Type 0} {m : Mark} {f : ℕ → Reader A} {g : Reader A} {L : ℕ → List Lexeme → A → Type 0} {M : List Lexeme → A → Type 0} {c : Lexeme → Bool} {P Q : ℕ → Type 0}
     → ((p : ℕ) → Rule (f p) (L p) c Q) → Rule g M c P → ((i : ℕ) → P (suc i) → Q i)
@@ -373,8 +421,13 @@ module _ {A : Type 0} (m : Mark) (f : ℕ → Reader A) (L : ℕ → List Lexeme
         same = λ x v w d. rw h (one.same x v w d);
       }
 
-  only_whole : ((i : ℕ) → P (suc i) → Q i) → (w : List Lexeme) (a : A) → Only m L w a → P (length w) → (t : List Lexeme) → Stops c t → ahead_at m f refuse (w ++ t) ≡ Ok (a, t)
-  only_whole shorter w a (Only.only p {u} l) fits t st = rw (mark_self m) ((here p).whole u a l (shorter (length u) fits) t st)
+  only_this : ((i : ℕ) → P (suc i) → Q i) → (p : ℕ) (s : List Lexeme) (a : A) (t : List Lexeme) → Whole (f p) Q s a t → Whole (ahead_at m f refuse) P (mark m p ∷ s) a t
+  only_this shorter p s a t (inl e) = inl (rw (mark_self m) e)
+  only_this shorter p s a t (inr k) = inr (record {
+      front = mark m p ∷ k.front; rest = k.rest; split = ap (λ z. mark m p ∷ z) k.split; stops = rw (mark_self m) k.stops; late = λ q. k.late (shorter (length k.front) q) })
+
+  only_whole : ((i : ℕ) → P (suc i) → Q i) → (w : List Lexeme) (a : A) → Only m L w a → (t : List Lexeme) → Stops c t → Whole (ahead_at m f refuse) P (w ++ t) a t
+  only_whole shorter w a (Only.only p {u} l) t st = only_this shorter p (u ++ t) a t ((here p).whole u a l t st)
 
 pub rule_only : {A : Type 0} {m : Mark} {f : ℕ → Reader A} {L : ℕ → List Lexeme → A → Type 0} {c : Lexeme → Bool} {Q : ℕ → Type 0} (P : ℕ → Type 0)
     → ((p : ℕ) → Rule (f p) (L p) c Q) → ((i : ℕ) → P (suc i) → Q i) → Rule (ahead_at m f refuse) (Only m L) c P
@@ -417,11 +470,19 @@ module _ {A : Type 0} (f g : Reader A) (L M : List Lexeme → A → Type 0) (c :
       record { front = one.front; split = one.split; more = one.more; tree = one.tree; gives = Either.right one.gives;
         same = λ x v w d. rw (same_first sees_name name_alike one.front s t v w x one.split d ∙ h) (one.same x v w d) }
 
+  name_left : (s : List Lexeme) (a : A) (t : List Lexeme) → sees_name s ≡ true → Whole f P s a t → Whole (at_name f g) P s a t
+  name_left s a t h (inl e) = inl (rw h e)
+  name_left s a t h (inr k) = inr (record { front = k.front; rest = k.rest; split = k.split; stops = rw h k.stops; late = k.late })
+
+  name_right : (s : List Lexeme) (a : A) (t : List Lexeme) → sees_name s ≡ false → Whole g P s a t → Whole (at_name f g) P s a t
+  name_right s a t h (inl e) = inl (rw h e)
+  name_right s a t h (inr k) = inr (record { front = k.front; rest = k.rest; split = k.split; stops = rw h k.stops; late = k.late })
+
   name_whole : ((u : List Lexeme) (a : A) (t : List Lexeme) → L u a → sees_name (u ++ t) ≡ true)
       → ((u : List Lexeme) (a : A) (t : List Lexeme) → M u a → Stops c t → sees_name (u ++ t) ≡ false)
-      → (w : List Lexeme) (a : A) → Either L M w a → P (length w) → (t : List Lexeme) → Stops c t → at_name f g (w ++ t) ≡ Ok (a, t)
-  name_whole named unnamed w a (Either.left l) fits t st = rw (named w a t l) (here.whole w a l fits t st)
-  name_whole named unnamed w a (Either.right l) fits t st = rw (unnamed w a t l st) (there.whole w a l fits t st)
+      → (w : List Lexeme) (a : A) → Either L M w a → (t : List Lexeme) → Stops c t → Whole (at_name f g) P (w ++ t) a t
+  name_whole named unnamed w a (Either.left l) t st = name_left (w ++ t) a t (named w a t l) (here.whole w a l t st)
+  name_whole named unnamed w a (Either.right l) t st = name_right (w ++ t) a t (unnamed w a t l st) (there.whole w a l t st)
 
 pub rule_at_name : {A : Type 0} {f g : Reader A} {L M : List Lexeme → A → Type 0} {c : Lexeme → Bool} {P : ℕ → Type 0} → Rule f L c P → Rule g M c P
     → ((u : List Lexeme) (a : A) (t : List Lexeme) → L u a → sees_name (u ++ t) ≡ true)
@@ -486,10 +547,19 @@ module _ {A : Type 0} (f : Op → Reader A) (g : Reader A) (L : Op → List Lexe
         same = λ x v w d. rw (h, at_compare) (one.same x v w d);
       }
 
+  compare_this : ((i : ℕ) → P (suc i) → Q i) → (o : Op) (p : ℕ) (s : List Lexeme) (a : A) (t : List Lexeme) → Whole (f o) Q s a t → Whole (at_compare f g) P (compare o p ∷ s) a t
+  compare_this shorter o p s a t (inl e) = inl e
+  compare_this shorter o p s a t (inr k) = inr (record {
+      front = compare o p ∷ k.front; rest = k.rest; split = ap (λ z. compare o p ∷ z) k.split; stops = k.stops; late = λ q. k.late (shorter (length k.front) q) })
+
+  compare_other : (s : List Lexeme) (a : A) (t : List Lexeme) → sees_compare s ≡ None → Whole g P s a t → Whole (at_compare f g) P s a t
+  compare_other s a t h (inl e) = inl (rw (h, at_compare) e)
+  compare_other s a t h (inr k) = inr (record { front = k.front; rest = k.rest; split = k.split; stops = rw (h, at_compare) k.stops; late = k.late })
+
   compare_whole : ((i : ℕ) → P (suc i) → Q i) → ((u : List Lexeme) (a : A) (t : List Lexeme) → M u a → Stops c t → sees_compare (u ++ t) ≡ None)
-      → (w : List Lexeme) (a : A) → Compared L M w a → P (length w) → (t : List Lexeme) → Stops c t → at_compare f g (w ++ t) ≡ Ok (a, t)
-  compare_whole shorter apart w a (Compared.compared o p {u} l) fits t st = (here o).whole u a l (shorter (length u) fits) t st
-  compare_whole shorter apart w a (Compared.uncompared l) fits t st = rw (apart w a t l st, at_compare) (there.whole w a l fits t st)
+      → (w : List Lexeme) (a : A) → Compared L M w a → (t : List Lexeme) → Stops c t → Whole (at_compare f g) P (w ++ t) a t
+  compare_whole shorter apart w a (Compared.compared o p {u} l) t st = compare_this shorter o p (u ++ t) a t ((here o).whole u a l t st)
+  compare_whole shorter apart w a (Compared.uncompared l) t st = compare_other (w ++ t) a t (apart w a t l st) (there.whole w a l t st)
 
 pub rule_at_compare : {A : Type 0} {f : Op → Reader A} {g : Reader A} {L : Op → List Lexeme → A → Type 0} {M : List Lexeme → A → Type 0} {c : Lexeme → Bool} {P Q : ℕ → Type 0}
     → ((o : Op) → Rule (f o) (L o) c Q) → Rule g M c P → ((i : ℕ) → P (suc i) → Q i)
