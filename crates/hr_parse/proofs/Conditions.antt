@@ -157,7 +157,7 @@ of_neg u a (IsNeg.negation p l) = Ahead.this p (Map.map l)
 of_neg u a (IsNeg.parens p q l) = Ahead.other (Ahead.this p (Seq.seq l (Map.map (IsMark.the q))))
 of_neg u a (IsNeg.test l k) = Ahead.other (Ahead.other (Seq.seq l k))
 
-operand_unseen : (k : Mark) → same_mark k m.Minus ≡ false → same_mark k m.Null ≡ false → (u : List Lexeme) (a : OperandAst) (t : List Lexeme) → IsOperand u a → sees k (u ++ t) ≡ false
+pub operand_unseen : (k : Mark) → same_mark k m.Minus ≡ false → same_mark k m.Null ≡ false → (u : List Lexeme) (a : OperandAst) (t : List Lexeme) → IsOperand u a → sees k (u ++ t) ≡ false
 operand_unseen k e h u a t (IsOperand.column (IsColumn.column (IsName.name n p) o)) = refl
 operand_unseen k e h u a t (IsOperand.literal (IsLiteral.positive n p l)) = refl
 operand_unseen k e h u a t (IsOperand.literal (IsLiteral.negative n p q l)) = e

@@ -3,3 +3,5 @@ pub mod Rules
 pub mod Stops
 pub mod Operands
 pub mod Conditions
+pub mod Expressions
+pub mod Statements
