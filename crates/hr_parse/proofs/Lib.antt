@@ -5,3 +5,4 @@ pub mod Operands
 pub mod Conditions
 pub mod Expressions
 pub mod Statements
+pub mod Whole

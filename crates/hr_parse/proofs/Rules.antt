@@ -95,11 +95,11 @@ ok_parts {A = A} a b s t e = let q : ◌≡◌ {A = A × List Lexeme} (a, s) (b,
 
 -- ---- one rule behind another
 
-bind_ok : {A B : Type 0} (r : Outcome A) (g : A → Reader B) (y : B × List Lexeme) → and_then r g ≡ Ok y → (p : A × List Lexeme) × (r ≡ Ok p) × (g p.0 p.1 ≡ Ok y)
+pub bind_ok : {A B : Type 0} (r : Outcome A) (g : A → Reader B) (y : B × List Lexeme) → and_then r g ≡ Ok y → (p : A × List Lexeme) × (r ≡ Ok p) × (g p.0 p.1 ≡ Ok y)
 bind_ok (Ok p) g y e = (p, refl, e)
 bind_ok (Err w) g y e = absurd (cc)
 
-bind_err : {A B : Type 0} (r : Outcome A) (g : A → Reader B) (t : List Lexeme) → and_then r g ≡ Err t → (r ≡ Err t) ⊎ ((p : A × List Lexeme) × (r ≡ Ok p) × (g p.0 p.1 ≡ Err t))
+pub bind_err : {A B : Type 0} (r : Outcome A) (g : A → Reader B) (t : List Lexeme) → and_then r g ≡ Err t → (r ≡ Err t) ⊎ ((p : A × List Lexeme) × (r ≡ Ok p) × (g p.0 p.1 ≡ Err t))
 bind_err (Ok p) g t e = inr (p, refl, e)
 bind_err (Err w) g t e = let q : w ≡ t = cc in inl (ap Err q)
 
