@@ -1,5 +1,5 @@
 -- How the reading of a text goes on behind a token.
-use Rattle.std.proofs.Common.{◌≡◌, ◌≤◌, ℕ, zero, suc, ◌+◌, ◌-◌, false, List, [], ◌∷◌, ◌++◌, length, drop, get_or, arith, sym, ◌∙◌, ap, Ok, append_assoc}
+use Rattle.std.proofs.Common.{◌≡◌, ◌≤◌, ℕ, zero, suc, ◌+◌, ◌-◌, false, List, [], ◌∷◌, ◌++◌, length, drop, get_or, arith, sym, ◌∙◌, ap, Ok, append_assoc, drop-drop}
 use Rattle.hr_lex.specs.Bytes.{is_blank}
 use Rattle.hr_lex.specs.Tokens.{Tokens, Spans, reading, token_at, with_front}
 use Rattle.hr_lex.specs.declared.token.Token.{Token}
@@ -32,3 +32,7 @@ one_more front at [] t all some e f s whole = absurd (omega (arith, some))
 one_more front at (b ∷ text) t all some e f s whole =
     let later : Tokens = reading zero t.to (drop (t.to - at) (b ∷ text)) in
     rw (append_assoc front (t ∷ []) later.tokens) (ap (with_front front) (sym (goes_on at b text t e f s)) ∙ whole)
+
+-- the rest behind a token is that of the text
+pub further : (text rest : List ℕ) (at to : ℕ) → at ≤ to → rest ≡ drop at text → drop (to - at) rest ≡ drop to text
+further text rest at to le e = let k : at + (to - at) ≡ to = omega (arith, le) in rw e (drop-drop (to - at) at text ∙ rw k)

@@ -1,6 +1,6 @@
 -- The tokens of a text. It is read from the left: blanks are passed over, and the longest token is taken each time.
-use Rattle.std.specs.Prelude.{◌≡◌, ◌<◌, ◌≤◌, ℕ, zero, suc, ◌+◌, ◌-◌, false, nat_le, nat_lt, List, [], ◌∷◌, ◌++◌, length, take, drop, slice_index, Option, Some, None, Result, Ok, Err, ◌==◌, if◌then◌else◌}
-use Rattle.std.specs.List.{prefix_len}
+use Rattle.std.specs.Prelude.{◌≡◌, ◌<◌, ◌≤◌, ℕ, zero, suc, ◌+◌, ◌-◌, true, false, nat_le, nat_lt, List, [], ◌∷◌, ◌++◌, length, take, drop, slice_index, Option, Some, None, Result, Ok, Err, ◌==◌, if◌then◌else◌}
+use Rattle.std.specs.List.{prefix_len, AllByRecursion}
 use Rattle.hr_lex.specs.Bytes.{is_blank, is_digit, is_letter, is_name_byte}
 use Rattle.hr_lex.specs.Keywords.{keyword}
 use Rattle.hr_lex.specs.Numbers.{number, fitting}
@@ -106,3 +106,17 @@ read_of text = if nat_lt 1024 (length text) then record { tokens = []; error = S
 -- the tokens of a text, or its first error
 abbrev pub tokens_of : List ℕ → Result (List Token) LexError
 tokens_of text = all_tokens (read_of text)
+
+-- ---- what holds of each token
+
+-- the bytes that a token stands on
+abbrev pub written : List ℕ → Token → List ℕ
+written text token = take (token.to - token.from) (drop token.from text)
+
+-- letters and digits, at most 32
+abbrev pub IsNameText : List ℕ → Type 0
+IsNameText bytes = (length bytes ≤ 32) × AllByRecursion (λ b. is_name_byte b ≡ true) bytes
+
+-- a token stands on bytes of the text, and a name's are those of a name
+abbrev pub IsTokenOf : List ℕ → Token → Type 0
+IsTokenOf text token = (token.from < token.to) × (token.to ≤ length text) × (token.kind ≡ t.Name → IsNameText (written text token))

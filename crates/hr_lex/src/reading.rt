@@ -2,7 +2,7 @@
 
 ghost use Rattle.std.specs.Prelude.{◌≡◌, ◌≤◌, ◌<◌, ◌+◌, length, false, zero, IfOk, IfErr, Ok, Err, ◌⊎◌};
 ghost use Rattle.hr_lex.specs.Tokens as spec;
-ghost use Rattle.std.specs.List.{prefix_len};
+ghost use Rattle.std.specs.List.{prefix_len, AllByRecursion};
 ghost use Rattle.hr_lex.specs.Bytes.{is_name_byte, is_digit};
 ghost use Rattle.hr_lex.specs.Quotes.{closing};
 
@@ -135,7 +135,8 @@ fn token_at(at: u32, bytes: &[u8]) -> Result<Token, LexError>
 /// The tokens of the text's bytes, of which there are few enough, up to the first error.
 fn read_bytes(alloc: Global, bytes: &[u8]) -> Result<Reading, AllocError>
     requires { length bytes.now ≤ 1024 }
-    ensures { IfOk result (λ r. spec.reading_of r ≡ spec.reading zero 0 bytes.now) }
+    ensures value { IfOk result (λ r. spec.reading_of r ≡ spec.reading zero 0 bytes.now) }
+    ensures each { IfOk result (λ r. AllByRecursion (spec.IsTokenOf bytes.now) r.tokens.items) }
 {
     let mut tokens = Vec::new(alloc);
     let mut at = 0;
@@ -168,7 +169,8 @@ fn read_bytes(alloc: Global, bytes: &[u8]) -> Result<Reading, AllocError>
 
 /// The tokens of a text up to its first error. A text of more than 1,024 bytes has none, and the error TooLong.
 pub fn read(alloc: Global, text: &str) -> Result<Reading, AllocError>
-    ensures { IfOk result (λ r. spec.reading_of r ≡ spec.read_of text.now) }
+    ensures value { IfOk result (λ r. spec.reading_of r ≡ spec.read_of text.now) }
+    ensures each { IfOk result (λ r. AllByRecursion (spec.IsTokenOf text.now) r.tokens.items) }
 {
     let bytes = text.as_bytes();
     if bytes.len() > MOST_BYTES {
@@ -183,6 +185,7 @@ pub fn read(alloc: Global, text: &str) -> Result<Reading, AllocError>
 /// The tokens of a text, or its first error from the left.
 pub fn tokens(alloc: Global, text: &str) -> Result<Vec<Token>, LexError>
     ensures ok { IfOk result (λ all. spec.tokens_of text.now ≡ Ok all.items) }
+    ensures each { IfOk result (λ all. AllByRecursion (spec.IsTokenOf text.now) all.items) }
     ensures err { IfErr result (λ e. (e ≡ LexError.Memory) ⊎ (spec.tokens_of text.now ≡ Err e)) }
 {
     let Reading { tokens, error } = read(alloc, text)?;

@@ -1,3 +1,5 @@
 pub mod Words
 pub mod Trees
+pub mod Grammar
 pub mod Reading
+pub mod Parse

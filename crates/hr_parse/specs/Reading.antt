@@ -37,7 +37,7 @@ use Rattle.hr_parse.specs.declared.word.Lexeme.{Lexeme}
 use Rattle.hr_parse.specs.declared.words.Stop.{Stop}
 use Rattle.hr_parse.specs.declared.words.Stop.TheVariants.{Unexpected, Memory}
 use Rattle.hr_parse.specs.Words.{is_mark}
-use Rattle.hr_parse.specs.Trees.{sum, difference, product, placed, simple}
+use Rattle.hr_parse.specs.Trees.{minus, sum, difference, product, placed, simple}
 
 -- what was read and the words behind it, or the words from the unexpected one on
 abbrev pub Outcome : Type 0 → Type 0
@@ -166,11 +166,7 @@ column = do
 
 -- ---- literals and operands
 
--- the signed number of a literal with a sign, and of one without
-abbrev pub minus : ℕ → ℤ
-minus zero = pos 0
-minus (suc n) = negsuc n
-
+-- the signed number of a literal behind a sign, and of one without
 abbrev pub negated : ℕ → Option ℤ
 negated n = if nat_le n (2 ^ 63) then Some (minus n) else None
 

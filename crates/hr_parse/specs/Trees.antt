@@ -1,5 +1,5 @@
 -- How expressions are put together.
-use Rattle.std.specs.Prelude.{ℕ}
+use Rattle.std.specs.Prelude.{ℕ, zero, suc, ℤ, pos, negsuc}
 use Rattle.hr_parse.specs.declared.ast.ColumnAst.{ColumnAst}
 use Rattle.hr_parse.specs.declared.ast.LiteralAst.{LiteralAst}
 use Rattle.hr_parse.specs.declared.ast.OperandAst.{OperandAst}
@@ -33,3 +33,8 @@ placed e at = expr (out-ExprAst e).kind at
 abbrev pub simple : OperandAst → ExprAst
 simple (operand.Column c) = expr (kind.Column c) c.first.at
 simple (operand.Literal l) = expr (kind.Literal l) l.at
+
+-- the number behind a sign
+abbrev pub minus : ℕ → ℤ
+minus zero = pos 0
+minus (suc n) = negsuc n

@@ -8,6 +8,7 @@ mod expr;
 mod list;
 mod name;
 mod operand;
+mod parse;
 mod select;
 mod statement;
 mod word;
