@@ -9,10 +9,10 @@ ghost use Rattle.hr_engine.specs.Base.{IsSoundCount};
 ghost use Rattle.hr_history.specs.declared.entry.Entry.{Entry};
 ghost use Rattle.hr_history.specs.History.{history_of, is_call};
 ghost use Rattle.hr_history.specs.Transactions.{begun, log, asks, submits, submitted, phase_of, next_begun, next_log, next_asks, next_submits, next_submitted, next_phase};
-ghost use Rattle.hr_history.specs.Given.{given_to, next_given};
+ghost use Rattle.hr_history.specs.Given.{given_to, found, next_given};
 ghost use Rattle.hr_history.specs.Replicas.{out_at, journal_of, is_convicted, call_at, next_out, next_journal, next_convicted};
 ghost use Rattle.hr_history.specs.Attempts.{is_preempted, places_told, dispatched, next_preempted, next_places, next_dispatched};
-ghost use Rattle.hr_history.specs.Primary.{primary_of, search_after, next_primary, next_search_after};
+ghost use Rattle.hr_history.specs.Primary.{primary_of, search_after, candidate_of, next_primary, next_search_after};
 ghost use Rattle.hr_history.specs.Turn.{turn_start, replies_to_runs, fresh_of, went, bad_count, owed, is_sound_count, next_replies, next_fresh, next_went, next_bad_count, owed_after};
 ghost use Rattle.hr_history.specs.Replies.{reply_to, refusal_of, next_reply, next_refusal};
 ghost use Rattle.hr_history.specs.Rules.{due};
@@ -31,8 +31,8 @@ pub fn transactions()
     ensures asks { (entries : List Entry) (e : Entry) → asks (history_of (entries ++ e ∷ [])) ≡ next_asks e.event (asks (history_of entries)) }
     ensures submits { (t : ℕ) (entries : List Entry) (e : Entry) → submits t (history_of (entries ++ e ∷ [])) ≡ next_submits t e.event (submits t (history_of entries)) }
     ensures submitted { (entries : List Entry) (e : Entry) → submitted (history_of (entries ++ e ∷ [])) ≡ next_submitted e.event (submitted (history_of entries)) }
-    ensures phase_of { (t : ℕ) (entries : List Entry) (e : Entry) → phase_of t (history_of (entries ++ e ∷ [])) ≡ next_phase t e.event (history_of entries) (phase_of t (history_of entries)) }
-    ensures given_to { (t : ℕ) (entries : List Entry) (e : Entry) → given_to t (history_of (entries ++ e ∷ [])) ≡ next_given t e.event (history_of entries) (given_to t (history_of entries)) }
+    ensures phase_of { (t : ℕ) (entries : List Entry) (e : Entry) → phase_of t (history_of (entries ++ e ∷ [])) ≡ next_phase t e.event (asks (history_of entries)) (length (log (history_of entries))) (phase_of t (history_of entries)) }
+    ensures given_to { (t : ℕ) (entries : List Entry) (e : Entry) → given_to t (history_of (entries ++ e ∷ [])) ≡ next_given t e.event (found t (history_of entries)) (given_to t (history_of entries)) }
 {}
 
 /// Replicas: the job that is out, the journal, the conviction, and what became of each transaction there.
@@ -40,7 +40,7 @@ pub fn replicas()
     ensures out_at { (r : ℕ) (entries : List Entry) (e : Entry) → out_at r (history_of (entries ++ e ∷ [])) ≡ next_out r e.event (out_at r (history_of entries)) }
     ensures journal_of { (r : ℕ) (entries : List Entry) (e : Entry) → journal_of r (history_of (entries ++ e ∷ [])) ≡ next_journal (call_at r e.event (history_of entries)) (journal_of r (history_of entries)) }
     ensures is_convicted { (r : ℕ) (entries : List Entry) (e : Entry) → is_convicted r (history_of (entries ++ e ∷ [])) ≡ next_convicted r e.event (is_convicted r (history_of entries)) }
-    ensures is_preempted { (r : ℕ) (t : ℕ) (entries : List Entry) (e : Entry) → is_preempted r t (history_of (entries ++ e ∷ [])) ≡ next_preempted r t e.event (history_of entries) (is_preempted r t (history_of entries)) }
+    ensures is_preempted { (r : ℕ) (t : ℕ) (entries : List Entry) (e : Entry) → is_preempted r t (history_of (entries ++ e ∷ [])) ≡ next_preempted r t e.event (call_at r e.event (history_of entries)) (is_preempted r t (history_of entries)) }
     ensures places_told { (r : ℕ) (t : ℕ) (entries : List Entry) (e : Entry) → places_told r t (history_of (entries ++ e ∷ [])) ≡ next_places t (call_at r e.event (history_of entries)) (length (history_of entries)) (places_told r t (history_of entries)) }
     ensures dispatched { (r : ℕ) (entries : List Entry) (e : Entry) → dispatched r (history_of (entries ++ e ∷ [])) ≡ next_dispatched r e.event (dispatched r (history_of entries)) }
 {}
@@ -48,9 +48,9 @@ pub fn replicas()
 /// The primary, and the turn.
 pub fn primary_and_turn()
     ensures primary_of { (entries : List Entry) (e : Entry) → primary_of (history_of (entries ++ e ∷ [])) ≡ next_primary e.event (primary_of (history_of entries)) }
-    ensures search_after { (f : ℕ) (entries : List Entry) (e : Entry) → search_after f (history_of (entries ++ e ∷ [])) ≡ next_search_after f e.event (history_of entries) (search_after f (history_of entries)) }
+    ensures search_after { (f : ℕ) (entries : List Entry) (e : Entry) → search_after f (history_of (entries ++ e ∷ [])) ≡ next_search_after e.event (primary_of (history_of entries)) (candidate_of f (history_of entries) (search_after f (history_of entries))) (search_after f (history_of entries)) }
     ensures replies_to_runs { (entries : List Entry) (e : Entry) → replies_to_runs (history_of (entries ++ e ∷ [])) ≡ next_replies e.event (replies_to_runs (history_of entries)) }
-    ensures fresh_of { (entries : List Entry) (e : Entry) → fresh_of (history_of (entries ++ e ∷ [])) ≡ next_fresh e.event (history_of entries) (fresh_of (history_of entries)) }
+    ensures fresh_of { (entries : List Entry) (e : Entry) → fresh_of (history_of (entries ++ e ∷ [])) ≡ next_fresh e.event (λ r. out_at r (history_of entries)) (fresh_of (history_of entries)) }
     ensures went { (entries : List Entry) (e : Entry) → went (history_of (entries ++ e ∷ [])) ≡ next_went e.event (history_of entries) (went (history_of entries)) }
     ensures bad_count { (entries : List Entry) (e : Entry) → bad_count (history_of (entries ++ e ∷ [])) ≡ next_bad_count e.event (history_of entries) (bad_count (history_of entries)) }
     ensures owed { (entries : List Entry) (e : Entry) → owed (history_of (entries ++ e ∷ [])) ≡ owed_after e.event }
