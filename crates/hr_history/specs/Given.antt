@@ -47,6 +47,7 @@ given_by t r (reply.Ran (run.Done answer)) now given =
 given_by t r _ now given = given
 
 abbrev pub next_given : ℕ → Event → Found → List Given → List Given
+next_given t (event.Begin session txn) now given = if txn == t then [] else given
 next_given t (event.Give replica told) now given = given_by t replica told now given
 next_given t _ now given = given
 

@@ -9,6 +9,7 @@ use Rattle.hr_engine.specs.Lists.{is_empty, once}
 use Rattle.hr_engine.specs.Waits.{next_wait, next_standing, if_all}
 use Rattle.hr_engine.specs.declared.reply.RunReply.TheVariants as run
 use Rattle.hr_engine.specs.declared.reply.EndReply.TheVariants as end
+use Rattle.hr_history.specs.declared.entry.Entry.{Entry}
 use Rattle.hr_history.specs.declared.entry.Event.{Event}
 use Rattle.hr_history.specs.declared.entry.Event.TheVariants as event
 use Rattle.hr_history.specs.declared.job.Job.{Job}
@@ -16,14 +17,15 @@ use Rattle.hr_history.specs.declared.job.Job.TheVariants as job
 use Rattle.hr_history.specs.declared.phase.Phase.TheVariants as phase
 use Rattle.hr_history.specs.declared.phase.Last.{Last}
 use Rattle.hr_history.specs.declared.phase.Fresh.{Fresh}
+use Rattle.hr_history.specs.History.{History}
 use Rattle.hr_history.specs.Lists.{when, replica_numbers}
-use Rattle.hr_history.specs.Transactions.{next_log, next_phase}
+use Rattle.hr_history.specs.Transactions.{asks, next_log, next_phase}
 use Rattle.hr_history.specs.Replicas.{next_out, next_convicted, call_told}
 use Rattle.hr_history.specs.Primary.{next_primary, next_search_after}
 use Rattle.hr_history.specs.Given.{Given, Found, next_given}
 use Rattle.hr_history.specs.Attempts.{next_touched, next_preempted, next_places, ends_attempt, still_told, as_told, next_dispatched}
 use Rattle.hr_history.specs.Turn.{next_replies, next_fresh}
-use Rattle.hr_history.specs.View.{View, TxnState, Progress, Attempt, is_fresh}
+use Rattle.hr_history.specs.View.{View, TxnState, Progress, Attempt, is_fresh, view_of}
 use Rattle.hr_history.specs.Processed.{txn_in, phase_in, replica_in, attempt_in, candidate_in, no_attempt, named_in, cycle_in}
 use Rattle.hr_history.specs.Jobs.{txn_numbers}
 
@@ -44,6 +46,7 @@ touched_after t None was = was
 touched_after t (Some call) was = next_touched t call was
 
 abbrev pub next_count : ℕ → Event → ℕ → ℕ
+next_count t (event.Begin session txn) n = if txn == t then 0 else n
 next_count t (event.Submit txn index stmt) n = if txn == t then n + 1 else n
 next_count t _ n = n
 
@@ -175,3 +178,7 @@ view_step v place asks e = record {
   replies = next_replies e v.replies;
   fresh = fresh_after v e;
 }
+
+-- the step of a history's view
+abbrev pub step_of : ℕ → Entry → History → View
+step_of f e before = view_step (view_of f before) (length before) (asks before) e.event

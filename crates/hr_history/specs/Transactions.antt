@@ -39,10 +39,11 @@ asks [] = 0
 asks (e ∷ before) = next_asks e.event (asks before)
 
 abbrev pub next_submits : ℕ → Event → List Stmt → List Stmt
+next_submits t (event.Begin session txn) stmts = if txn == t then [] else stmts
 next_submits t (event.Submit txn index stmt) stmts = if txn == t then stmts ++ stmt ∷ [] else stmts
 next_submits t _ stmts = stmts
 
--- the statements of a transaction, in order
+-- the statements of a transaction since its Begin, in order
 abbrev pub submits : ℕ → History → List Stmt
 submits t [] = []
 submits t (e ∷ before) = next_submits t e.event (submits t before)
@@ -58,6 +59,7 @@ submitted (e ∷ before) = next_submitted e.event (submitted before)
 
 -- what an entry makes of the phase of transaction t, where the entries before it had so many AskCommits and Decides
 abbrev pub next_phase : ℕ → Event → ℕ → ℕ → Phase → Phase
+next_phase t (event.Begin session txn) asked logged p = if txn == t then phase.Active else p
 next_phase t (event.AskCommit txn) asked logged p = if txn == t then phase.Asked (asked + 1) else p
 next_phase t (event.AskRollback txn) asked logged p = if txn == t then phase.RolledBack else p
 next_phase t (event.Decide txn) asked logged p = if txn == t then phase.Logged (logged + 1) else p

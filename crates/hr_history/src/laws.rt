@@ -7,7 +7,7 @@ ghost use Rattle.hr_rel.specs.declared.answer.Answer.{Answer};
 ghost use Rattle.hr_engine.specs.Journal.{Journal};
 ghost use Rattle.hr_engine.specs.Base.{IsSoundCount};
 ghost use Rattle.hr_history.specs.declared.entry.Entry.{Entry};
-ghost use Rattle.hr_history.specs.History.{history_of, is_call};
+ghost use Rattle.hr_history.specs.History.{History, history_of, is_call};
 ghost use Rattle.hr_history.specs.Transactions.{begun, log, asks, submits, submitted, phase_of, next_begun, next_log, next_asks, next_submits, next_submitted, next_phase};
 ghost use Rattle.hr_history.specs.Given.{given_to, found, next_given};
 ghost use Rattle.hr_history.specs.Replicas.{out_at, journal_of, is_convicted, call_at, next_out, next_journal, next_convicted};
@@ -17,7 +17,9 @@ ghost use Rattle.hr_history.specs.Turn.{turn_start, replies_to_runs, fresh_of, w
 ghost use Rattle.hr_history.specs.Replies.{reply_to, refusal_of, next_reply, next_refusal};
 ghost use Rattle.hr_history.specs.Rules.{due};
 ghost use Rattle.hr_history.specs.SameAnswers.{same_answer};
-ghost use Rattle.hr_history.specs.Faithful.{is_begun, is_next};
+ghost use Rattle.hr_history.specs.Faithful.{is_begun, is_next, Begun};
+ghost use Rattle.hr_history.specs.View.{view_of};
+ghost use Rattle.hr_history.specs.Step.{step_of};
 
 /// What is stored with one more entry at its end is the history with one more entry.
 pub fn one_more_entry()
@@ -76,4 +78,15 @@ pub fn sound_counts()
 /// Answers count as the same exactly where they are one and the same.
 pub fn equal_answers()
     ensures { (a b : Answer) → IsTrue (same_answer a b) ↔ (a ≡ b) }
+{}
+
+/// The view of a history with one more entry is the step of the view before it, in each field but the replicas.
+pub fn view_steps()
+    ensures f { (f sessions : ℕ) (e : Entry) (before : History) → Begun f sessions (e ∷ before) → (view_of f (e ∷ before)).f ≡ (step_of f e before).f }
+    ensures log { (f sessions : ℕ) (e : Entry) (before : History) → Begun f sessions (e ∷ before) → (view_of f (e ∷ before)).log ≡ (step_of f e before).log }
+    ensures txns { (f sessions : ℕ) (e : Entry) (before : History) → Begun f sessions (e ∷ before) → (view_of f (e ∷ before)).txns ≡ (step_of f e before).txns }
+    ensures primary { (f sessions : ℕ) (e : Entry) (before : History) → Begun f sessions (e ∷ before) → (view_of f (e ∷ before)).primary ≡ (step_of f e before).primary }
+    ensures search_after { (f sessions : ℕ) (e : Entry) (before : History) → Begun f sessions (e ∷ before) → (view_of f (e ∷ before)).search_after ≡ (step_of f e before).search_after }
+    ensures replies { (f sessions : ℕ) (e : Entry) (before : History) → Begun f sessions (e ∷ before) → (view_of f (e ∷ before)).replies ≡ (step_of f e before).replies }
+    ensures fresh { (f sessions : ℕ) (e : Entry) (before : History) → Begun f sessions (e ∷ before) → (view_of f (e ∷ before)).fresh ≡ (step_of f e before).fresh }
 {}
