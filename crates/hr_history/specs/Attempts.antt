@@ -48,14 +48,15 @@ abbrev pub unless_ended : ℕ → Option Call → Bool → Bool
 unless_ended t None was = was
 unless_ended t (Some call) was = not (ends_attempt t call) && was
 
-abbrev pub next_preempted : ℕ → ℕ → Event → History → Bool → Bool
-next_preempted r t (event.Preempt replica txn) before was = ((replica == r) && (txn == t)) || was
-next_preempted r t e before was = unless_ended t (call_at r e before) was
+-- what an entry makes of it, where it tells such a call of replica r
+abbrev pub next_preempted : ℕ → ℕ → Event → Option Call → Bool → Bool
+next_preempted r t (event.Preempt replica txn) call was = ((replica == r) && (txn == t)) || was
+next_preempted r t e call was = unless_ended t call was
 
 -- whether a transaction was preempted at a replica since its attempt there began anew: it is to be rolled back there
 abbrev pub is_preempted : ℕ → ℕ → History → Bool
 is_preempted r t [] = false
-is_preempted r t (e ∷ before) = next_preempted r t e.event before (is_preempted r t before)
+is_preempted r t (e ∷ before) = next_preempted r t e.event (call_at r e.event before) (is_preempted r t before)
 
 -- whether a call adds an answer to the attempt of transaction t
 abbrev pub adds_answer : ℕ → Call → Bool

@@ -17,3 +17,4 @@ pub mod Evidence
 pub mod Rules
 pub mod Replies
 pub mod Faithful
+pub mod Step

@@ -34,17 +34,21 @@ candidate_after f may_be start = find may_be (replicas_after f start)
 abbrev pub is_live : ℕ → History → Bool
 is_live r h = not (is_lost r h) && not (is_convicted r h)
 
-abbrev pub start_at_suspect : ℕ → Option ℕ → History → ℕ → ℕ
-start_at_suspect f (Some primary) before start = start
-start_at_suspect f None before start = unwrap_or (candidate_after f (λ r. is_live r before) start) start
+abbrev pub start_at_suspect : Option ℕ → Option ℕ → ℕ → ℕ
+start_at_suspect (Some primary) candidate start = start
+start_at_suspect None candidate start = unwrap_or candidate start
 
-abbrev pub next_search_after : ℕ → Event → History → ℕ → ℕ
-next_search_after f event.Suspect before start = start_at_suspect f (primary_of before) before start
-next_search_after f (event.NewPrimary replica) before start = replica
-next_search_after f _ before start = start
+-- what an entry makes of the start of the search, where there was such a primary and such a candidate
+abbrev pub next_search_after : Event → Option ℕ → Option ℕ → ℕ → ℕ
+next_search_after event.Suspect primary candidate start = start_at_suspect primary candidate start
+next_search_after (event.NewPrimary replica) primary candidate start = replica
+next_search_after _ primary candidate start = start
+
+abbrev pub candidate_of : ℕ → History → ℕ → Option ℕ
+candidate_of f h start = candidate_after f (λ r. is_live r h) start
 
 -- where the search for a candidate starts: after the last primary, or after the candidate that stood when a later
 -- suspicion came without a primary
 abbrev pub search_after : ℕ → History → ℕ
 search_after f [] = 0
-search_after f (e ∷ before) = next_search_after f e.event before (search_after f before)
+search_after f (e ∷ before) = next_search_after e.event (primary_of before) (candidate_of f before (search_after f before)) (search_after f before)

@@ -27,31 +27,40 @@ abbrev pub out_at : ℕ → History → Option Job
 out_at r [] = None
 out_at r (e ∷ before) = next_out r e.event (out_at r before)
 
--- the backend's call that a job and its reply are; a run's statement is the one submitted with that number
-abbrev pub call_of : Option Job → JobReply → History → Option Call
-call_of (Some (job.Run t i)) (reply.Ran told) h = option_map (λ (s : Stmt). Ran t s told) (numbered (submits t h) i)
-call_of (Some (job.Commit t)) (reply.Ended told) h = Some (Committed t told)
-call_of (Some (job.Rollback t)) (reply.Ended told) h = Some (RolledBack t told)
-call_of (Some job.Restart) reply.StillLost h = Some (Restarted (Err record {}))
-call_of _ _ h = None
+-- the statement with this number of a transaction, from 1
+abbrev pub stmt_at : History → ℕ → ℕ → Option Stmt
+stmt_at h t i = numbered (submits t h) i
+
+-- the backend's call that a job and its reply are; a run's statement is found by the transaction and the index
+abbrev pub call_of : Option Job → JobReply → (ℕ → ℕ → Option Stmt) → Option Call
+call_of (Some (job.Run t i)) (reply.Ran told) stmt = option_map (λ (s : Stmt). Ran t s told) (stmt t i)
+call_of (Some (job.Commit t)) (reply.Ended told) stmt = Some (Committed t told)
+call_of (Some (job.Rollback t)) (reply.Ended told) stmt = Some (RolledBack t told)
+call_of (Some job.Restart) reply.StillLost stmt = Some (Restarted (Err record {}))
+call_of _ _ stmt = None
 
 abbrev pub restart_of : Option Job → ℕ → Option Call
 restart_of (Some job.Restart) count = Some (Restarted (Ok count))
 restart_of _ count = None
 
-abbrev pub call_if : Bool → ℕ → JobReply → History → Option Call
-call_if true r told before = call_of (out_at r before) told before
-call_if false r told before = None
+abbrev pub call_if : Bool → ℕ → JobReply → (ℕ → Option Job) → (ℕ → ℕ → Option Stmt) → Option Call
+call_if true r told out stmt = call_of (out r) told stmt
+call_if false r told out stmt = None
 
-abbrev pub restart_if : Bool → ℕ → ℕ → History → Option Call
-restart_if true r count before = restart_of (out_at r before) count
-restart_if false r count before = None
+abbrev pub restart_if : Bool → ℕ → ℕ → (ℕ → Option Job) → Option Call
+restart_if true r count out = restart_of (out r) count
+restart_if false r count out = None
 
--- the call of replica r's backend that an entry tells, with its reply
+-- the call of replica r's backend that an event tells, with its reply, where such a job was out at each replica and the
+-- statements were these
+abbrev pub call_told : ℕ → Event → (ℕ → Option Job) → (ℕ → ℕ → Option Stmt) → Option Call
+call_told r (event.Give replica told) out stmt = call_if (replica == r) r told out stmt
+call_told r (event.Restarted replica count) out stmt = restart_if (replica == r) r count out
+call_told r _ out stmt = None
+
+-- the call that an entry tells after this history
 abbrev pub call_at : ℕ → Event → History → Option Call
-call_at r (event.Give replica told) before = call_if (replica == r) r told before
-call_at r (event.Restarted replica count) before = restart_if (replica == r) r count before
-call_at r _ before = None
+call_at r e before = call_told r e (λ q. out_at q before) (stmt_at before)
 
 abbrev pub next_journal : Option Call → Journal → Journal
 next_journal None journal = journal

@@ -26,7 +26,7 @@ use Rattle.hr_history.specs.Lists.{numbered}
 use Rattle.hr_history.specs.Transactions.{session_of, log, phase_of}
 use Rattle.hr_history.specs.Replicas.{out_at}
 use Rattle.hr_history.specs.Primary.{is_some_of}
-use Rattle.hr_history.specs.Given.{given_to, answers_given, is_primary_run}
+use Rattle.hr_history.specs.Given.{given_to, answers_given, found, is_primary_run}
 
 -- the entry at a place of a history, from 0
 abbrev pub event_at : ℕ → History → Option Event
@@ -72,7 +72,7 @@ is_of s t h = is_some_of s (session_of t h)
 
 -- whether the job is to run a statement of session s, and its Done now gives the answer to the session
 abbrev pub gives_to : ℕ → ℕ → Option Job → History → Bool
-gives_to s r (Some (job.Run t i)) h = is_of s t h && is_primary_run t (length (given_to t h) + 1) r h
+gives_to s r (Some (job.Run t i)) h = is_of s t h && is_primary_run t (length (given_to t h) + 1) r (found t h)
 gives_to s r _ h = false
 
 abbrev pub reply_by : ℕ → ℕ → JobReply → History → ReplyState → ReplyState

@@ -39,10 +39,11 @@ asks [] = 0
 asks (e ∷ before) = next_asks e.event (asks before)
 
 abbrev pub next_submits : ℕ → Event → List Stmt → List Stmt
+next_submits t (event.Begin session txn) stmts = if txn == t then [] else stmts
 next_submits t (event.Submit txn index stmt) stmts = if txn == t then stmts ++ stmt ∷ [] else stmts
 next_submits t _ stmts = stmts
 
--- the statements of a transaction, in order
+-- the statements of a transaction since its Begin, in order
 abbrev pub submits : ℕ → History → List Stmt
 submits t [] = []
 submits t (e ∷ before) = next_submits t e.event (submits t before)
@@ -56,18 +57,19 @@ abbrev pub submitted : History → ℕ
 submitted [] = 0
 submitted (e ∷ before) = next_submitted e.event (submitted before)
 
--- what an entry makes of the phase of transaction t, where the entries before it had so many AskCommits and such a log
-abbrev pub next_phase : ℕ → Event → History → Phase → Phase
-next_phase t (event.AskCommit txn) before p = if txn == t then phase.Asked (asks before + 1) else p
-next_phase t (event.AskRollback txn) before p = if txn == t then phase.RolledBack else p
-next_phase t (event.Decide txn) before p = if txn == t then phase.Logged (length (log before) + 1) else p
-next_phase t (event.Refuse txn cause) before p = if txn == t then phase.Refused else p
-next_phase t _ before p = p
+-- what an entry makes of the phase of transaction t, where the entries before it had so many AskCommits and Decides
+abbrev pub next_phase : ℕ → Event → ℕ → ℕ → Phase → Phase
+next_phase t (event.Begin session txn) asked logged p = if txn == t then phase.Active else p
+next_phase t (event.AskCommit txn) asked logged p = if txn == t then phase.Asked (asked + 1) else p
+next_phase t (event.AskRollback txn) asked logged p = if txn == t then phase.RolledBack else p
+next_phase t (event.Decide txn) asked logged p = if txn == t then phase.Logged (logged + 1) else p
+next_phase t (event.Refuse txn cause) asked logged p = if txn == t then phase.Refused else p
+next_phase t _ asked logged p = p
 
 -- where a transaction stands: it is Active until its commit is asked for, it is decided, or it is refused or rolled back
 abbrev pub phase_of : ℕ → History → Phase
 phase_of t [] = phase.Active
-phase_of t (e ∷ before) = next_phase t e.event before (phase_of t before)
+phase_of t (e ∷ before) = next_phase t e.event (asks before) (length (log before)) (phase_of t before)
 
 -- open: neither decided nor refused nor rolled back
 abbrev pub is_open : Phase → Bool

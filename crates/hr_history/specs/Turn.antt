@@ -43,18 +43,19 @@ abbrev pub fresh_from : ℕ → Option Job → Option Fresh
 fresh_from r (Some (job.Run t i)) = Some record { replica = r; txn = t }
 fresh_from r _ = None
 
-abbrev pub fresh_by : ℕ → JobReply → History → Option Fresh
-fresh_by r (reply.Ran told) before = fresh_from r (out_at r before)
-fresh_by r _ before = None
+abbrev pub fresh_by : ℕ → JobReply → Option Job → Option Fresh
+fresh_by r (reply.Ran told) out = fresh_from r out
+fresh_by r _ out = None
 
-abbrev pub next_fresh : Event → History → Option Fresh → Option Fresh
-next_fresh (event.Give replica told) before fresh = fresh_by replica told before
-next_fresh e before fresh = if is_call e then None else fresh
+-- what an entry makes of it, where such a job was out at each replica
+abbrev pub next_fresh : Event → (ℕ → Option Job) → Option Fresh → Option Fresh
+next_fresh (event.Give replica told) out fresh = fresh_by replica told (out replica)
+next_fresh e out fresh = if is_call e then None else fresh
 
 -- the replica and the transaction of the turn's call, where that is a reply to a run
 abbrev pub fresh_of : History → Option Fresh
 fresh_of [] = None
-fresh_of (e ∷ before) = next_fresh e.event before (fresh_of before)
+fresh_of (e ∷ before) = next_fresh e.event (λ r. out_at r before) (fresh_of before)
 
 -- The primary went, and why; `at` is the place of the entry by which it did.
 pub record Gone : Type 0 where

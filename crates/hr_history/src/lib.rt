@@ -9,6 +9,7 @@ mod cause;
 mod entry;
 mod evidence;
 mod job;
+pub mod laws;
 mod limits;
 mod phase;
 mod reply;

@@ -14,3 +14,4 @@ pub mod Broken
 pub mod Views
 pub mod States
 pub mod StaleVoteStates
+pub mod Steps

@@ -1,0 +1,4 @@
+pub mod SameAnswersLemmas
+pub mod StepLemmas
+pub mod TxnSteps
+pub mod ReplicaSteps
