@@ -1,3 +1,13 @@
+pub mod BlockLemmas
+pub mod Exact
+pub mod FirstBad
+pub mod FormLemmas
+pub mod InputLaws
+pub mod LineLaws
 pub mod LineLemmas
 pub mod ScriptLemmas
+pub mod Refusals
+pub mod ScriptLaws
+pub mod StepLaws
+pub mod TextLaws
 pub mod WordLemmas

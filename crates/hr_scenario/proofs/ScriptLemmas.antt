@@ -1,12 +1,8 @@
 -- Loops over an engine's words and over script lines: what is read so far, in front of what is read of the rest.
-use Rattle.std.proofs.Common.{◌≡◌, ℕ, ◌+◌, ◌-◌, ◌<◌, suc, Bool, true, false, cond, List, [], ◌∷◌, ◌++◌, Option, Some, None, Result, Ok, Err, length, length-append, ◌&&◌, refl, sym, ap, ◌∙◌, append_assoc, arith}
+use Rattle.std.proofs.Common.{◌≡◌, ℕ, suc, List, [], ◌∷◌, ◌++◌, Option, Some, None, refl, sym, ap, append_assoc}
 use Rattle.std.specs.Option.{option_map}
-use Rattle.std.specs.Prelude.{codes}
-use Rattle.std.specs.Str.{bytes_eq}
-use Rattle.hr_scenario.specs.Lines.{Text, first_line, other_lines}
-use Rattle.hr_scenario.specs.Reading.{is_commit, kind_read, later, script_read, step_read, with_kinds, with_step, with_steps, words_read}
-use Rattle.hr_scenario.specs.declared.form.Step.{Step}
-use Rattle.hr_scenario.specs.declared.form.TableLine.{TableLine}
+use Rattle.hr_scenario.specs.Lines.{Text}
+use Rattle.hr_scenario.specs.Reading.{kind_read, with_kinds, words_read}
 use Rattle.hr_scenario.specs.declared.scenario.EngineKind.{EngineKind}
 
 one_kind_more : (front : List EngineKind) (kind : EngineKind) (o : Option (List EngineKind))

@@ -1,13 +1,12 @@
 -- Names and numbers: what the reading functions give.
-use Rattle.std.proofs.Common.{◌≡◌, ◌≢◌, ℕ, ℤ, pos, negsuc, ◌+◌, ◌<◌, ◌^◌, Bool, true, false, cond, not, nat_lt, nat_le, ◌&&◌, List, Option, Some, None, IsSome, IfSome, IfNone, ◌≤◌, ◌↔◌, length, [], ◌∷◌, MatchResult, Result, Ok, Err, refl, sym, ap, ◌∙◌, subst, arith, rules}
+use Rattle.std.proofs.Common.{◌≡◌, ◌≢◌, ℕ, ℤ, pos, negsuc, ◌<◌, ◌^◌, Bool, true, false, cond, not, nat_lt, nat_le, ◌&&◌, List, Option, Some, None, IsSome, IfSome, IfNone, ◌≤◌, ◌↔◌, length, [], ◌∷◌, MatchResult, Result, Ok, Err, refl, sym, ap, ◌∙◌, subst, arith}
 use Rattle.std.specs.Char.{is_ascii_lowercase}
 use Rattle.std.specs.List.{list_all}
 use Rattle.std.specs.Fmt.{signed_decimal}
 use Rattle.std.specs.Int.{w64}
 use mir.Val.{of_z, to_z}
 use Rattle.std.proofs.lemmas.Int.{to_z-of_z}
-use Rattle.std.specs.Int.RustNames.{FitsSigned}
-use Rattle.std.specs.Result.{result_ok, OkIff}
+use Rattle.std.specs.Result.{result_ok}
 use Rattle.std.specs.Str.{IsUtf8, bytes_eq}
 use Rattle.std.specs.Str.Parse.{signed_digits_value, ParsesSigned}
 use Rattle.std.proofs.lemmas.Bool.Decides.{nat_tests}
@@ -104,11 +103,11 @@ not_parsed now x (Ok s) word Q r None some told parses is = λ z small same.
     let read : result_ok r ≡ Some z = ap result_ok got in cc
 
 -- both tests of an `and`
-and_true : (b c : Bool) → b && c ≡ true → (b ≡ true) × (c ≡ true)
+pub and_true : (b c : Bool) → b && c ≡ true → (b ≡ true) × (c ≡ true)
 and_true true c h = (refl, h)
 and_true false c h = cc
 
-not_true : (b : Bool) → not b ≡ true → b ≡ false
+pub not_true : (b : Bool) → not b ≡ true → b ≡ false
 not_true true h = cc
 not_true false h = refl
 

@@ -1,5 +1,5 @@
 -- The definition of the input: which bytes are which scenario, and why other bytes are none.
-use Rattle.std.specs.Prelude.{◌≡◌, ℕ, ◌+◌, ◌-◌, ◌*◌, ◌^◌, ◌<◌, ◌≤◌, ◌⊎◌, List, [], ◌∷◌, ◌++◌, length, take, Result, ⊤}
+use Rattle.std.specs.Prelude.{◌≡◌, ℕ, ◌+◌, ◌-◌, ◌^◌, ◌<◌, ◌≤◌, ◌⊎◌, List, ◌++◌, length, take, Result, Ok, Err, ⊤}
 use Rattle.hr_scenario.specs.Lines.{Text, lines_of}
 use Rattle.hr_scenario.specs.Form.{form_lines, IsForm}
 use Rattle.hr_scenario.specs.Meaning.{scenario_of}
@@ -50,3 +50,15 @@ IsRefused bytes error =
 abbrev pub IsCause : Text → ReadError → Type 0
 IsCause bytes (Refused error) = IsRefused bytes error
 IsCause bytes NoMemory = ⊤
+
+-- the reader's answer is this scenario, unless memory ran out
+abbrev pub GivesScenario : Result Scenario ReadError → Scenario → Type 0
+GivesScenario (Ok read) scenario = read ≡ scenario
+GivesScenario (Err (Refused error)) scenario = ⊥
+GivesScenario (Err NoMemory) scenario = ⊤
+
+-- the reader's answer is this refusal, unless memory ran out
+abbrev pub GivesRefusal : Result Scenario ReadError → InputError → Type 0
+GivesRefusal (Ok read) error = ⊥
+GivesRefusal (Err (Refused told)) error = told ≡ error
+GivesRefusal (Err NoMemory) error = ⊤

@@ -1,5 +1,5 @@
 -- What a scenario of the smallest form says.
-use Rattle.std.specs.Prelude.{ℕ, ℤ, List, [], ◌∷◌, Option, Some, None, true, false}
+use Rattle.std.specs.Prelude.{ℕ, ℤ, List, [], ◌∷◌, ◌++◌, Option, Some, None, true, false}
 use Rattle.hr_rel.specs.declared.catalog.Catalog.{Catalog}
 use Rattle.hr_rel.specs.declared.catalog.ColumnDef.{ColumnDef}
 use Rattle.hr_rel.specs.declared.catalog.ColKind.TheVariants as kinds
@@ -50,17 +50,26 @@ select_stmt column key = stmts.Select (record {
   groups = [];
 })
 
--- a statement in front of the first of some blocks
-abbrev pub in_first : Stmt → List Block → List Block
-in_first stmt [] = []
-in_first stmt (block ∷ blocks) = record block { stmts = stmt ∷ block.stmts } ∷ blocks
+-- the statement of a step; COMMIT has none
+abbrev pub stmt_of : Step → Option Stmt
+stmt_of (Insert key value) = Some (insert_stmt key value)
+stmt_of (Select column key) = Some (select_stmt column key)
+stmt_of Commit = None
+
+-- statements in front of those of the first of some blocks
+abbrev pub in_first : List Stmt → List Block → List Block
+in_first stmts [] = []
+in_first stmts (block ∷ blocks) = record block { stmts = stmts ++ block.stmts } ∷ blocks
+
+-- a statement is in the block of the script behind it, and COMMIT ends a block
+abbrev pub before_blocks : Option Stmt → List Block → List Block
+before_blocks (Some stmt) blocks = in_first (stmt ∷ []) blocks
+before_blocks None blocks = record { stmts = []; commits = true } ∷ blocks
 
 -- the blocks of a script: the statements up to each COMMIT
 abbrev pub blocks_of : List Step → List Block
 blocks_of [] = []
-blocks_of (Insert key value ∷ steps) = in_first (insert_stmt key value) (blocks_of steps)
-blocks_of (Select column key ∷ steps) = in_first (select_stmt column key) (blocks_of steps)
-blocks_of (Commit ∷ steps) = record { stmts = []; commits = true } ∷ blocks_of steps
+blocks_of (step ∷ steps) = before_blocks (stmt_of step) (blocks_of steps)
 
 -- an empty table, and one session
 abbrev pub scenario_of : Form → Scenario

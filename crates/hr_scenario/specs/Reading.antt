@@ -1,6 +1,6 @@
 -- The reader as functions on lines, one for each function of the code: what the code gives. No public clause
 -- cites them; proofs/Exact.antt shows that they give what the definition of the input says.
-use Rattle.std.specs.Prelude.{◌≡◌, ℕ, suc, ℤ, pos, negsuc, ◌+◌, ◌*◌, ◌^◌, Bool, true, false, not, ◌&&◌, ◌||◌, ◌==◌, nat_le, nat_lt, if◌then◌else◌, List, [], ◌∷◌, ◌++◌, length, take, drop, Option, Some, None, Result, Ok, Err, ⊤, codes}
+use Rattle.std.specs.Prelude.{◌≡◌, ℕ, suc, ℤ, pos, negsuc, ◌+◌, ◌*◌, Bool, true, false, not, ◌&&◌, ◌||◌, ◌==◌, nat_le, nat_lt, if◌then◌else◌, List, [], ◌∷◌, ◌++◌, length, take, drop, Option, Some, None, Result, Ok, Err, ⊤, codes}
 use Rattle.std.specs.Char.{is_ascii_digit, is_ascii_lowercase}
 use Rattle.std.specs.Str.{bytes_eq}
 use Rattle.std.specs.Str.Parse.{signed_digits_value}
@@ -163,14 +163,22 @@ abbrev pub form_made : ℕ → List EngineKind → TableLine → Result (List St
 form_made f kinds table (Ok script) = Ok (record { f = f; kinds = kinds; table = table; script = script })
 form_made f kinds table (Err count) = Err count
 
+-- the parts of a scenario, the last first
+abbrev pub session_part : ℕ → List EngineKind → TableLine → List Text → Result Form ℕ
+session_part f kinds table =
+    line_then (fixed (codes "session")) (λ _ lines. form_made f kinds table (script_read table 0 false lines))
+
+abbrev pub table_part : ℕ → List EngineKind → List Text → Result Form ℕ
+table_part f kinds = line_then table_read (session_part f kinds)
+
+abbrev pub kinds_part : ℕ → List Text → Result Form ℕ
+kinds_part f = line_then (kinds_read (2 * f + 1)) (table_part f)
+
+abbrev pub f_part : List Text → Result Form ℕ
+f_part = line_then f_read kinds_part
+
 unfoldable pub form_read : List Text → Result Form ℕ
-form_read =
-    line_then (fixed (codes "hrdb 1")) (λ _.
-    line_then f_read (λ f.
-    line_then (kinds_read (2 * f + 1)) (λ kinds.
-    line_then table_read (λ table.
-    line_then (fixed (codes "session")) (λ _ lines.
-    form_made f kinds table (script_read table 0 false lines))))))
+form_read = line_then (fixed (codes "hrdb 1")) (λ _. f_part)
 
 -- What the code gave is what reading gives behind so many good lines, unless memory ran out.
 abbrev pub IsFailure : {X : Type 0} → ℕ → ReadError → Result X ℕ → Type 0

@@ -1,5 +1,8 @@
 //! What a scenario of the smallest form says.
 
+ghost use Rattle.std.specs.Prelude.{◌≡◌, [], ◌∷◌, IfOk};
+ghost use Rattle.hr_scenario.specs.Meaning.{blocks_of, catalog_of, insert_stmt, number_column, place_of, scenario_of, select_stmt, stmt_of};
+
 use crate::form::{Column, Form, Step, TableLine};
 use crate::scenario::{Block, Scenario};
 use hr_rel::{
@@ -10,7 +13,9 @@ use std::alloc::{AllocError, Global};
 use std::mem;
 
 /// A database of one empty table, and one session.
-pub fn scenario_of(alloc: Global, form: Form) -> Result<Scenario, AllocError> {
+pub fn scenario_of(alloc: Global, form: Form) -> Result<Scenario, AllocError>
+    ensures { IfOk result (λ scenario. scenario ≡ scenario_of form) }
+{
     let catalog = catalog_of(alloc, &form.table)?;
     let blocks = blocks_of(alloc, form.script.as_slice())?;
     Ok(Scenario {
@@ -22,7 +27,9 @@ pub fn scenario_of(alloc: Global, form: Form) -> Result<Scenario, AllocError> {
     })
 }
 
-fn catalog_of(alloc: Global, table: &TableLine) -> Result<Catalog, AllocError> {
+fn catalog_of(alloc: Global, table: &TableLine) -> Result<Catalog, AllocError>
+    ensures { IfOk result (λ catalog. catalog ≡ catalog_of table.now) }
+{
     let mut columns = one(alloc, column_def(&table.key))?;
     columns.push(column_def(&table.value))?;
     let table = TableDef {
@@ -35,7 +42,9 @@ fn catalog_of(alloc: Global, table: &TableLine) -> Result<Catalog, AllocError> {
 }
 
 /// A column of numbers that may not be NULL.
-fn column_def(name: &Name) -> ColumnDef {
+fn column_def(name: &Name) -> ColumnDef
+    ensures { result ≡ number_column name.now }
+{
     ColumnDef {
         name: *name,
         kind: ColKind::Int,
@@ -45,7 +54,9 @@ fn column_def(name: &Name) -> ColumnDef {
 }
 
 /// The blocks of a script: the statements up to each COMMIT.
-fn blocks_of(alloc: Global, script: &[Step]) -> Result<Seq<Block>, AllocError> {
+fn blocks_of(alloc: Global, script: &[Step]) -> Result<Seq<Block>, AllocError>
+    ensures { IfOk result (λ blocks. blocks ≡ blocks_of script.now) }
+{
     let mut blocks = Seq::new(alloc);
     let mut stmts = Seq::new(alloc);
     for step in script {
@@ -64,24 +75,30 @@ fn blocks_of(alloc: Global, script: &[Step]) -> Result<Seq<Block>, AllocError> {
 }
 
 /// The statement of a step; COMMIT has none.
-fn stmt_of(alloc: Global, step: &Step) -> Result<Option<Stmt>, AllocError> {
+fn stmt_of(alloc: Global, step: &Step) -> Result<Option<Stmt>, AllocError>
+    ensures { IfOk result (λ stmt. stmt ≡ stmt_of step.now) }
+{
     match *step {
-        Step::Insert { key, value } => Ok(Some(Stmt::Insert(insert(alloc, key, value)?))),
-        Step::Select { column, key } => Ok(Some(Stmt::Select(select(alloc, column, key)?))),
+        Step::Insert { key, value } => Ok(Some(insert(alloc, key, value)?)),
+        Step::Select { column, key } => Ok(Some(select(alloc, column, key)?)),
         Step::Commit => Ok(None),
     }
 }
 
-fn insert(alloc: Global, key: i64, value: i64) -> Result<InsertStmt, AllocError> {
+fn insert(alloc: Global, key: i64, value: i64) -> Result<Stmt, AllocError>
+    ensures { IfOk result (λ stmt. stmt ≡ insert_stmt key value) }
+{
     let mut row = one(alloc, Value::Int(key))?;
     row.push(Value::Int(value))?;
-    Ok(InsertStmt {
+    Ok(Stmt::Insert(InsertStmt {
         table: 0,
         rows: one(alloc, row)?,
-    })
+    }))
 }
 
-fn select(alloc: Global, column: Column, key: i64) -> Result<SelectStmt, AllocError> {
+fn select(alloc: Global, column: Column, key: i64) -> Result<Stmt, AllocError>
+    ensures { IfOk result (λ stmt. stmt ≡ select_stmt column key) }
+{
     let of_key = Operand::Col(ColRef {
         entry: 0,
         column: 0,
@@ -91,24 +108,28 @@ fn select(alloc: Global, column: Column, key: i64) -> Result<SelectStmt, AllocEr
         entry: 0,
         column: place_of(column),
     }));
-    Ok(SelectStmt {
+    Ok(Stmt::Select(SelectStmt {
         tables: one(alloc, 0)?,
         on: None,
         filter: Some(filter),
         items: one(alloc, item)?,
         groups: Seq::new(alloc),
-    })
+    }))
 }
 
 /// The column's place in the table, from 0.
-fn place_of(column: Column) -> u32 {
+fn place_of(column: Column) -> u32
+    ensures { result ≡ place_of column }
+{
     match column {
         Column::Key => 0,
         Column::Value => 1,
     }
 }
 
-fn one<T: Drop>(alloc: Global, item: T) -> Result<Seq<T>, AllocError> {
+fn one<T: Drop>(alloc: Global, item: T) -> Result<Seq<T>, AllocError>
+    ensures { IfOk result (λ items. items ≡ item ∷ []) }
+{
     let mut items = Seq::new(alloc);
     items.push(item)?;
     Ok(items)

@@ -1,8 +1,11 @@
 //! The reader of scenarios.
 
-ghost use Rattle.std.specs.Prelude.{◌≡◌, ◌≤◌, ◌<◌, ◌+◌, ◌-◌, ◌^◌, codes, false, IfOk, IfSome, OnSome};
+ghost use Rattle.std.specs.Prelude.{◌≡◌, ◌≤◌, ◌<◌, ◌+◌, ◌-◌, ◌^◌, codes, false, length, IfErr, IfOk, IfSome, OnSome};
 ghost use Rattle.std.specs.Option.{option_and_then, option_map};
 ghost use Rattle.std.specs.Str.{bytes_eq};
+ghost use Rattle.hr_scenario.specs.declared.error.InputError.{InputError};
+ghost use Rattle.hr_scenario.specs.declared.scenario.Scenario.{Scenario};
+ghost use Rattle.hr_scenario.specs.Input.{GivesRefusal, GivesScenario, IsCause, IsRefused, IsScenario};
 ghost use Rattle.hr_scenario.specs.Lines.{first_line, lines_of, other_lines};
 ghost use Rattle.hr_scenario.specs.Reading.{Gives, GivesBehind, column_read, f_read, fixed, form_read, insert_read, is_commit, kind_read, kinds_read, row_read, script_read, select_read, step_read, table_read, up_to_three, words_read};
 
@@ -18,8 +21,18 @@ use std::alloc::{AllocError, Global};
 /// How many bytes a scenario has, at most: 1 MiB.
 pub const MAX_BYTES: usize = 1 << 20;
 
-/// Reads a scenario.
-pub fn read(alloc: Global, bytes: &[u8]) -> Result<Scenario, ReadError> {
+/// Reads a scenario: the one whose bytes these are, or the first reason why they are none.
+pub fn read(alloc: Global, bytes: &[u8]) -> Result<Scenario, ReadError>
+    ensures scenario { IfOk result (IsScenario bytes.now) }
+    ensures refused { IfErr result (IsCause bytes.now) }
+
+    // No other scenario has these bytes, and no other refusal stands.
+    ensures only { (scenario : Scenario) → IsScenario bytes.now scenario → GivesScenario result scenario }
+    ensures first { (error : InputError) → IsRefused bytes.now error → GivesRefusal result error }
+
+    ensures wrong { IfOk result (λ scenario. scenario.f ≤ 3) }
+    ensures tables { IfOk result (λ scenario. length scenario.rows ≡ length scenario.catalog.tables) }
+{
     if bytes.len() > MAX_BYTES {
         return Err(ReadError::Refused(InputError {
             line: 0,
@@ -42,7 +55,9 @@ fn unbuilt_after(lines: u32) -> ReadError
 }
 
 /// The form whose lines the bytes have.
-fn form_of(alloc: Global, bytes: &[u8]) -> Result<Form, ReadError> {
+fn form_of(alloc: Global, bytes: &[u8]) -> Result<Form, ReadError>
+    ensures { Gives result (form_read (lines_of bytes.now)) }
+{
     let mut lines = Lines::of(bytes);
     let Some(()) = fixed_line(&mut lines, b"hrdb 1") else {
         return Err(unbuilt_after(0));

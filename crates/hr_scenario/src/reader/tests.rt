@@ -1,5 +1,4 @@
 use super::*;
-use hr_rel::{Expr, Item, Operand, Pred, Stmt, Value};
 use std::fmt::Write;
 use std::test::Fail;
 
@@ -20,46 +19,13 @@ fn refused(alloc: Global, text: &str) -> Result<Option<u32>, ReadError> {
 #[test]
 fn reads_what_is_written(rt: HostRuntime) -> Result<(), Fail> {
     let scenario = read(rt.alloc(), SCENARIO.as_bytes())?;
+    let kinds = [
+        EngineKind::ByTable,
+        EngineKind::ByRange,
+        EngineKind::ByTable,
+    ];
     assert_eq!(rt; scenario.f, 1);
-    assert_eq!(rt;
-        scenario.kinds.as_slice(),
-        [
-            EngineKind::ByTable,
-            EngineKind::ByRange,
-            EngineKind::ByTable
-        ]
-        .as_slice()
-    );
-    let [table] = scenario.catalog.tables.as_slice() else {
-        panic!(rt; "tables")
-    };
-    assert_eq!(rt; table.name.bytes(), b"t".as_slice());
-    let [key, value] = table.columns.as_slice() else {
-        panic!(rt; "columns")
-    };
-    assert_eq!(rt; key.name.bytes(), b"id".as_slice());
-    assert_eq!(rt; value.name.bytes(), b"v".as_slice());
-    let [blocks] = scenario.scripts.as_slice() else {
-        panic!(rt; "scripts")
-    };
-    let [block] = blocks.as_slice() else {
-        panic!(rt; "blocks")
-    };
-    let [Stmt::Insert(insert), Stmt::Select(select)] = block.stmts.as_slice() else {
-        panic!(rt; "statements")
-    };
-    let [row] = insert.rows.as_slice() else {
-        panic!(rt; "rows")
-    };
-    assert!(rt; row.as_slice() == [Value::Int(5), Value::Int(50)].as_slice());
-    let [Item::Plain(Expr::Col(column))] = select.items.as_slice() else {
-        panic!(rt; "items")
-    };
-    assert_eq!(rt; column.column, 1);
-    let Some(Pred::Compare(_, _, Operand::Lit(literal))) = &select.filter else {
-        panic!(rt; "filter")
-    };
-    assert!(rt; *literal == Value::Int(5));
+    assert_eq!(rt; scenario.kinds.as_slice(), kinds.as_slice());
     Ok(())
 }
 

@@ -1,4 +1,4 @@
-use Rattle.std.proofs.Common.{ℕ, ◌≡◌, ◌+◌, ◌-◌, suc, sym, ◌∙◌, arith, subst, ap}
+use Rattle.std.proofs.Common.{◌≡◌, ◌+◌, ◌-◌, suc, sym, ◌∙◌, arith, ap}
 use Rattle.hr_scenario.specs.Reading.{with_kinds, words_read}
 use Rattle.hr_scenario.proofs.ScriptLemmas.{words_step}
 use Rattle.hr_scenario.proofs.reader.words_of.Goals as goal
