@@ -5,7 +5,7 @@ pub mod FormLemmas
 pub mod InputLaws
 pub mod LineLaws
 pub mod LineLemmas
-pub mod ScriptLemmas
+pub mod KindLemmas
 pub mod Refusals
 pub mod ScriptLaws
 pub mod StepLaws

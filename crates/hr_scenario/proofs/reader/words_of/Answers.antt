@@ -1,6 +1,6 @@
 use Rattle.std.proofs.Common.{◌≡◌, ◌+◌, ◌-◌, suc, sym, ◌∙◌, arith, ap}
 use Rattle.hr_scenario.specs.Reading.{with_kinds, words_read}
-use Rattle.hr_scenario.proofs.ScriptLemmas.{words_step}
+use Rattle.hr_scenario.proofs.KindLemmas.{words_step}
 use Rattle.hr_scenario.proofs.reader.words_of.Goals as goal
 
 pub kinds-preserved : goal.kinds-preserved

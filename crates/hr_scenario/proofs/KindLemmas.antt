@@ -1,4 +1,4 @@
--- Loops over an engine's words and over script lines: what is read so far, in front of what is read of the rest.
+-- The loop over the engines' words: those read so far, in front of those of the rest.
 use Rattle.std.proofs.Common.{◌≡◌, ℕ, suc, List, [], ◌∷◌, ◌++◌, Option, Some, None, refl, sym, ap, append_assoc}
 use Rattle.std.specs.Option.{option_map}
 use Rattle.hr_scenario.specs.Lines.{Text}
