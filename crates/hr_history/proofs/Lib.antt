@@ -2,3 +2,5 @@ pub mod SameAnswersLemmas
 pub mod StepLemmas
 pub mod TxnSteps
 pub mod ReplicaSteps
+pub mod Tests
+pub mod Quiet

@@ -20,7 +20,7 @@ use Rattle.hr_history.specs.declared.phase.Fresh.{Fresh}
 use Rattle.hr_history.specs.History.{History}
 use Rattle.hr_history.specs.Lists.{when, replica_numbers}
 use Rattle.hr_history.specs.Transactions.{asks, next_log, next_phase}
-use Rattle.hr_history.specs.Replicas.{next_out, next_convicted, call_told}
+use Rattle.hr_history.specs.Replicas.{any_stmt, next_out, next_convicted, call_told}
 use Rattle.hr_history.specs.Primary.{next_primary, next_search_after}
 use Rattle.hr_history.specs.Given.{Given, Found, next_given}
 use Rattle.hr_history.specs.Attempts.{next_touched, next_preempted, next_places, ends_attempt, still_told, as_told, next_dispatched}
@@ -28,10 +28,6 @@ use Rattle.hr_history.specs.Turn.{next_replies, next_fresh}
 use Rattle.hr_history.specs.View.{View, TxnState, Progress, Attempt, is_fresh, view_of}
 use Rattle.hr_history.specs.Processed.{txn_in, phase_in, replica_in, attempt_in, candidate_in, no_attempt, named_in, cycle_in}
 use Rattle.hr_history.specs.Jobs.{txn_numbers}
-
--- Where only its being there matters, any statement serves.
-abbrev pub any_stmt : Stmt
-any_stmt = stmt.Delete record { table = 0; filter = None }
 
 abbrev pub next_answers : ℕ → Call → List Answer → List Answer
 next_answers t (Ran u stmt (run.Done answer)) answers = if t == u then answers ++ answer ∷ [] else answers
@@ -86,16 +82,12 @@ module _ (v : View) where
   abbrev pub out_in : ℕ → Option Job
   out_in r = (replica_in v r).out
 
-  -- the statement with this number, if the transaction has so many
-  abbrev pub stmt_in : ℕ → ℕ → Option Stmt
-  stmt_in t i = when (nat_le 1 i && nat_le i (txn_in v t).statements) any_stmt
-
   abbrev pub found_in : ℕ → Found
   found_in t = record { out = out_in; primary = v.primary; phase = phase_in v t; logged = length v.log }
 
-  -- the call of replica r's backend that an event tells
+  -- the call of replica r's backend that an event tells; which statement a run is of doesn't matter here
   abbrev pub call_in : ℕ → Event → Option Call
-  call_in r e = call_told r e out_in stmt_in
+  call_in r e = call_told r e out_in (λ t i. any_stmt)
 
   abbrev pub fresh_after : Event → Option Fresh
   fresh_after e = next_fresh e out_in v.fresh
@@ -146,7 +138,7 @@ module _ (v : View) where
     places = next_places t (call_in r e) place (attempt_in v r t).places;
     last = last_after e r t (call_in r e);
     touched = touched_after t (call_in r e) (attempt_in v r t).touched;
-    preempted = next_preempted r t e (call_in r e) (attempt_in v r t).preempted;
+    preempted = next_preempted r t e (call_in r e) (attempt_in v r t).touched (attempt_in v r t).preempted;
   }
 
   abbrev pub settled_in : ℕ → Settled

@@ -11,7 +11,7 @@ ghost use Rattle.hr_history.specs.History.{History, history_of, is_call};
 ghost use Rattle.hr_history.specs.Transactions.{begun, log, asks, submits, submitted, phase_of, next_begun, next_log, next_asks, next_submits, next_submitted, next_phase};
 ghost use Rattle.hr_history.specs.Given.{given_to, found, next_given};
 ghost use Rattle.hr_history.specs.Replicas.{out_at, journal_of, is_convicted, call_at, next_out, next_journal, next_convicted};
-ghost use Rattle.hr_history.specs.Attempts.{is_preempted, places_told, dispatched, next_preempted, next_places, next_dispatched};
+ghost use Rattle.hr_history.specs.Attempts.{is_touched, is_preempted, places_told, dispatched, next_preempted, next_places, next_dispatched};
 ghost use Rattle.hr_history.specs.Primary.{primary_of, search_after, candidate_of, next_primary, next_search_after};
 ghost use Rattle.hr_history.specs.Turn.{turn_start, replies_to_runs, fresh_of, went, bad_count, owed, is_sound_count, next_replies, next_fresh, next_went, next_bad_count, owed_after};
 ghost use Rattle.hr_history.specs.Replies.{reply_to, refusal_of, next_reply, next_refusal};
@@ -42,7 +42,7 @@ pub fn replicas()
     ensures out_at { (r : ℕ) (entries : List Entry) (e : Entry) → out_at r (history_of (entries ++ e ∷ [])) ≡ next_out r e.event (out_at r (history_of entries)) }
     ensures journal_of { (r : ℕ) (entries : List Entry) (e : Entry) → journal_of r (history_of (entries ++ e ∷ [])) ≡ next_journal (call_at r e.event (history_of entries)) (journal_of r (history_of entries)) }
     ensures is_convicted { (r : ℕ) (entries : List Entry) (e : Entry) → is_convicted r (history_of (entries ++ e ∷ [])) ≡ next_convicted r e.event (is_convicted r (history_of entries)) }
-    ensures is_preempted { (r : ℕ) (t : ℕ) (entries : List Entry) (e : Entry) → is_preempted r t (history_of (entries ++ e ∷ [])) ≡ next_preempted r t e.event (call_at r e.event (history_of entries)) (is_preempted r t (history_of entries)) }
+    ensures is_preempted { (r : ℕ) (t : ℕ) (entries : List Entry) (e : Entry) → is_preempted r t (history_of (entries ++ e ∷ [])) ≡ next_preempted r t e.event (call_at r e.event (history_of entries)) (is_touched t (journal_of r (history_of entries))) (is_preempted r t (history_of entries)) }
     ensures places_told { (r : ℕ) (t : ℕ) (entries : List Entry) (e : Entry) → places_told r t (history_of (entries ++ e ∷ [])) ≡ next_places t (call_at r e.event (history_of entries)) (length (history_of entries)) (places_told r t (history_of entries)) }
     ensures dispatched { (r : ℕ) (entries : List Entry) (e : Entry) → dispatched r (history_of (entries ++ e ∷ [])) ≡ next_dispatched r e.event (dispatched r (history_of entries)) }
 {}
