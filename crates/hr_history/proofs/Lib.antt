@@ -4,3 +4,4 @@ pub mod TxnSteps
 pub mod ReplicaSteps
 pub mod Tests
 pub mod Quiet
+pub mod WaitLaws
