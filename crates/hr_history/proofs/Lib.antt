@@ -5,3 +5,4 @@ pub mod ReplicaSteps
 pub mod Tests
 pub mod Quiet
 pub mod WaitLaws
+pub mod CallWords

@@ -39,7 +39,7 @@ replica_within f c r rest a =
     let le = le_of r (2 * f) (both (nat_le r (2 * f)) _ (both (is_replica f c r) rest a).0).0 in
     omega (arith, le)
 
-out_same : (f r : ℕ) (h : History) → r < 2 * f + 1 → out_at r h ≡ out_in (view_of f h) r
+pub out_same : (f r : ℕ) (h : History) → r < 2 * f + 1 → out_at r h ≡ out_in (view_of f h) r
 out_same f r h lt = sym (ap (λ p. p.out) (replica_lookup f r h lt))
 
 -- the run that the turn's call replied to
