@@ -6,3 +6,4 @@ pub mod Tests
 pub mod Quiet
 pub mod WaitLaws
 pub mod CallWords
+pub mod AttemptSteps

@@ -78,6 +78,12 @@ abbrev pub settled_after : Option Call → Settled → Settled
 settled_after None s = s
 settled_after (Some call) s = next_settled call s
 
+-- what was told just now, if it was, and else what is still told
+abbrev pub last_if : Bool → Option Last → Last → Last
+last_if false told still = still
+last_if true None still = still
+last_if true (Some told) still = told
+
 module _ (v : View) where
   abbrev pub out_in : ℕ → Option Job
   out_in r = (replica_in v r).out
@@ -115,11 +121,6 @@ module _ (v : View) where
   -- whether a transaction runs at replica r after a call
   abbrev pub runs_after : ℕ → Call → ℕ → Bool
   runs_after r call t = not (is_empty (next_answers t call (attempt_in v r t).answers))
-
-  abbrev pub last_if : Bool → Option Last → Last → Last
-  last_if false told still = still
-  last_if true None still = still
-  last_if true (Some told) still = told
 
   abbrev pub last_by_call : Bool → ℕ → ℕ → Call → Last
   last_by_call fresh r t call = last_if fresh (as_told t (call ∷ [])) (still_told
