@@ -1,5 +1,5 @@
 -- A transaction at a replica, one entry later.
-use Rattle.std.proofs.Common.{◌≡◌, ℕ, ◌+◌, ◌*◌, ◌<◌, Bool, true, false, not, ◌&&◌, ◌||◌, ◌==◌, nat_eq, cond, if◌then◌else◌, Option, Some, None, unwrap_or, option_map, option_and_then, List, [], ◌∷◌, ◌++◌, length, map, filter, refl, ap, sym, ◌∙◌}
+use Rattle.std.proofs.Common.{◌≡◌, ℕ, ◌+◌, ◌*◌, ◌<◌, Bool, true, false, not, ◌&&◌, ◌||◌, ◌==◌, nat_eq, cond, if◌then◌else◌, Option, Some, None, unwrap_or, option_map, option_and_then, List, [], ◌∷◌, length, map, filter, refl, ap, sym, ◌∙◌}
 use Rattle.std.specs.Map.{lookup}
 use Rattle.std.proofs.lemmas.Bool.Decides.{Decides-eqb}
 use Rattle.hr_engine.specs.Journal.{Call, Ran, Journal}
@@ -7,7 +7,6 @@ use Rattle.hr_engine.specs.Attempts.{Step, attempt, next_attempt, answers, is_ru
 use Rattle.hr_engine.specs.Waits.{wait, next_wait, standing, next_standing, if_all}
 use Rattle.hr_engine.specs.Lists.{has, is_empty, once}
 use Rattle.hr_engine.specs.declared.reply.RunReply.TheVariants as run
-use Rattle.hr_history.specs.declared.entry.Entry.{Entry}
 use Rattle.hr_history.specs.declared.entry.Event.{Event}
 use Rattle.hr_history.specs.declared.entry.Event.TheVariants as event
 use Rattle.hr_history.specs.declared.job.Job.{Job}
@@ -17,20 +16,18 @@ use Rattle.hr_history.specs.declared.job.JobReply.TheVariants as reply
 use Rattle.hr_history.specs.declared.phase.Last.{Last}
 use Rattle.hr_history.specs.declared.phase.Last.TheVariants as last
 use Rattle.hr_history.specs.declared.phase.Fresh.{Fresh}
-use Rattle.hr_history.specs.History.{History, is_call}
+use Rattle.hr_history.specs.History.{History}
 use Rattle.hr_history.specs.Replicas.{out_at, journal_of, next_journal, call_at, call_of, call_if, stmt_at}
 use Rattle.hr_history.specs.Attempts.{is_touched, is_preempted, places_told, next_places, next_preempted, dispatched, still_told, as_told, or_still, last_told}
-use Rattle.hr_history.specs.Turn.{fresh_of, next_fresh, fresh_from}
-use Rattle.hr_history.specs.View.{View, Attempt, view_of, attempt_state, progress_in, is_fresh}
-use Rattle.hr_history.specs.Processed.{replica_in, attempt_in, no_attempt, named_in, cycle_in}
-use Rattle.hr_history.specs.Step.{next_answers, answers_after, touched_after, wait_left, standing_left, runs_after, last_if, last_by_call, last_after, fresh_after, call_in, attempt_after}
-use Rattle.hr_history.specs.Faithful.{is_allowed}
-use Rattle.hr_history.proofs.StepLemmas.{both, replica_lookup}
-use Rattle.hr_history.proofs.TxnSteps.{fresh_same}
+use Rattle.hr_history.specs.Turn.{fresh_of, next_fresh}
+use Rattle.hr_history.specs.View.{Attempt, view_of, attempt_state, is_fresh}
+use Rattle.hr_history.specs.Processed.{attempt_in, no_attempt, named_in, cycle_in}
+use Rattle.hr_history.specs.Step.{next_answers, answers_after, touched_after, wait_left, standing_left, runs_after, last_if, last_after, fresh_after, attempt_after}
+use Rattle.hr_history.proofs.StepLemmas.{replica_lookup}
 use Rattle.hr_history.proofs.Tests.{eq_turn}
-use Rattle.hr_history.proofs.Quiet.{Quiet, quiet, places_none, preempted_none, fresh_none}
+use Rattle.hr_history.proofs.Quiet.{quiet, places_none, preempted_none, fresh_none}
 use Rattle.hr_history.proofs.WaitLaws.{wait_of_last, standing_of_last}
-use Rattle.hr_history.proofs.CallWords.{Words, words, bare, bare_words, call_same, answers_step, answers_same, touched_same, places_same, preempted_same}
+use Rattle.hr_history.proofs.CallWords.{Words, bare, bare_words, call_same, answers_step, answers_same, touched_same, places_same, preempted_same}
 
 -- a look-up in entries made from a list of keys
 module _ {X : Type 0} (g : ℕ → X) where
@@ -50,7 +47,7 @@ nothing_known : (r t : ℕ) (h : History) → has (dispatched r h) t ≡ false �
 nothing_known r t h none =
     let q = quiet r t h none in
     let told : last_told (is_fresh (fresh_of h) r t) t (journal_of r h) ≡ last.Answered =
-        ap (λ b. last_told b t (journal_of r h)) (fresh_none r t h none) ∙ (λ i. still_told (q.wait_none i) (q.standing_none i)) in
+    ap (λ b. last_told b t (journal_of r h)) (fresh_none r t h none) ∙ (λ i. still_told (q.wait_none i) (q.standing_none i)) in
     λ i. record {
       answers = sym (ap answers q.attempt_none) i;
       places = sym (places_none r t h none) i;
@@ -102,8 +99,8 @@ module _ (f r : ℕ) (h : History) (lt : r < 2 * f + 1) where
   -- after a call
   still_same : (c : Call) (t : ℕ)
       → still_told (filter (runs_after (view_of f h) r (bare c)) (next_wait t (bare c) (wait_left (view_of f h) r t)))
-          (option_and_then (if_all (runs_after (view_of f h) r (bare c))) (next_standing t (bare c) (standing_left (view_of f h) r t)))
-        ≡ still_told (wait t (c ∷ journal_of r h)) (standing t (c ∷ journal_of r h))
+      (option_and_then (if_all (runs_after (view_of f h) r (bare c))) (next_standing t (bare c) (standing_left (view_of f h) r t)))
+      ≡ still_told (wait t (c ∷ journal_of r h)) (standing t (c ∷ journal_of r h))
   still_same c t =
       let w = bare_words c in
       λ i. still_told (filter (λ u. runs_after_same c u i) ((w i).wait t (wait_same t i))) (option_and_then (if_all (λ u. runs_after_same c u i)) ((w i).standing t (standing_same t i)))

@@ -1,5 +1,5 @@
 -- What a call makes of a transaction and of a replica doesn't depend on which statement was run.
-use Rattle.std.proofs.Common.{◌≡◌, ℕ, ◌+◌, ◌*◌, ◌<◌, Bool, true, false, not, ◌&&◌, ◌==◌, if◌then◌else◌, Option, Some, None, Ok, Err, is_some, option_map, List, [], ◌∷◌, ◌++◌, length, map, refl, ap, sym, ◌∙◌}
+use Rattle.std.proofs.Common.{◌≡◌, ℕ, ◌+◌, ◌*◌, ◌<◌, Bool, true, false, not, ◌&&◌, ◌==◌, if◌then◌else◌, Option, Some, None, Ok, Err, is_some, option_map, List, [], ◌∷◌, ◌++◌, length, refl, ap, sym, ◌∙◌}
 use Rattle.std.proofs.lemmas.List.{length-append, map-append}
 use Rattle.hr_rel.specs.declared.stmt.Stmt.{Stmt}
 use Rattle.hr_rel.specs.declared.answer.Answer.{Answer}
@@ -7,7 +7,6 @@ use Rattle.hr_engine.specs.Journal.{Call, Ran, Committed, RolledBack, Restarted,
 use Rattle.hr_engine.specs.Attempts.{Step, attempt, next_attempt, answers, statements}
 use Rattle.hr_engine.specs.Base as base
 use Rattle.hr_engine.specs.Waits.{next_wait, next_standing}
-use Rattle.hr_engine.specs.Lists.{is_empty}
 use Rattle.hr_engine.specs.declared.reply.RunReply.TheVariants as run
 use Rattle.hr_engine.specs.declared.reply.EndReply.TheVariants as end
 use Rattle.hr_history.specs.declared.entry.Event.{Event}

@@ -7,3 +7,4 @@ pub mod Quiet
 pub mod WaitLaws
 pub mod CallWords
 pub mod AttemptSteps
+pub mod ViewSteps

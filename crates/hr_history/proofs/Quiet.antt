@@ -1,14 +1,13 @@
 -- Of a transaction that a replica was given no statement of, the replica's journal tells nothing.
-use Rattle.std.proofs.Common.{◌≡◌, ℕ, ◌+◌, Bool, true, false, not, ◌&&◌, ◌||◌, ◌==◌, if◌then◌else◌, Option, Some, None, List, [], ◌∷◌, ◌++◌, filter, option_and_then, length, refl, ap, sym, ◌∙◌, subst}
+use Rattle.std.proofs.Common.{◌≡◌, ℕ, Bool, true, false, not, ◌&&◌, ◌||◌, ◌==◌, if◌then◌else◌, Option, Some, None, List, [], ◌∷◌, ◌++◌, filter, option_and_then, length, refl, ap, sym, ◌∙◌}
 use Rattle.std.proofs.lemmas.Bool.Decides.{Decides-eqb}
 use Rattle.hr_rel.specs.declared.stmt.Stmt.{Stmt}
 use Rattle.hr_engine.specs.Journal.{Call, Ran, Committed, RolledBack, Restarted, Journal}
-use Rattle.hr_engine.specs.Attempts.{Step, attempt, is_running}
+use Rattle.hr_engine.specs.Attempts.{attempt, is_running}
 use Rattle.hr_engine.specs.Waits.{wait, standing, if_all}
 use Rattle.hr_engine.specs.Lists.{has}
 use Rattle.hr_engine.specs.declared.reply.RunReply.TheVariants as run
 use Rattle.hr_engine.specs.declared.reply.EndReply.TheVariants as end
-use Rattle.hr_history.specs.declared.entry.Entry.{Entry}
 use Rattle.hr_history.specs.declared.entry.Event.{Event}
 use Rattle.hr_history.specs.declared.entry.Event.TheVariants as event
 use Rattle.hr_history.specs.declared.job.Job.{Job}
@@ -16,10 +15,10 @@ use Rattle.hr_history.specs.declared.job.Job.TheVariants as job
 use Rattle.hr_history.specs.declared.job.JobReply.{JobReply}
 use Rattle.hr_history.specs.declared.job.JobReply.TheVariants as reply
 use Rattle.hr_history.specs.declared.phase.Fresh.{Fresh}
-use Rattle.hr_history.specs.History.{History, is_call}
+use Rattle.hr_history.specs.History.{History}
 use Rattle.hr_history.specs.Replicas.{out_at, next_out, call_of, call_if, restart_of, restart_if, call_at, stmt_at, next_journal, journal_of}
 use Rattle.hr_history.specs.Attempts.{is_touched, is_preempted, next_preempted, unless_ended, ends_attempt, adds_answer, places_told, next_places, dispatched, next_dispatched, and_dispatched}
-use Rattle.hr_history.specs.Turn.{fresh_of, next_fresh, fresh_by, fresh_from}
+use Rattle.hr_history.specs.Turn.{fresh_of, next_fresh, fresh_from}
 use Rattle.hr_history.specs.View.{is_fresh}
 use Rattle.hr_history.proofs.Tests.{eq_turn, if_false, if_same, or_false, and_false, has_end}
 
@@ -37,9 +36,9 @@ asks t _ = false
 split_dispatched : (b : Bool) (u t : ℕ) (ts : List ℕ) → has ts u ≡ b → has (if b then ts else ts ++ u ∷ []) t ≡ false → (has ts t ≡ false) × ((t == u) ≡ false)
 split_dispatched true u t ts e h = (h, not_there (t == u) refl)
   where
-  not_there : (b : Bool) → (t == u) ≡ b → (t == u) ≡ false
-  not_there true d = cc (sym e ∙ ap (has ts) (sym ((Decides-eqb t u).0 d)) ∙ h)
-  not_there false d = d
+    not_there : (b : Bool) → (t == u) ≡ b → (t == u) ≡ false
+    not_there true d = cc (sym e ∙ ap (has ts) (sym ((Decides-eqb t u).0 d)) ∙ h)
+    not_there false d = d
 split_dispatched false u t ts e h =
     let both = or_false (has ts t) (u == t) (sym (has_end ts u t) ∙ h) in
     (both.0, eq_turn t u ∙ both.1)
@@ -204,9 +203,9 @@ preempted_none r t (e ∷ before) h =
 fresh_at_job : (q r t : ℕ) (out : Option Job) → ((q ≡ r) → runs_of t out ≡ false) → is_fresh (fresh_from q out) r t ≡ false
 fresh_at_job q r t (Some (job.Run u i)) none = by_test (q == r) refl
   where
-  by_test : (b : Bool) → (q == r) ≡ b → ((q == r) && (u == t)) ≡ false
-  by_test true e = ap (λ b. b && (u == t)) e ∙ eq_turn u t ∙ none ((Decides-eqb q r).0 e)
-  by_test false e = ap (λ b. b && (u == t)) e
+    by_test : (b : Bool) → (q == r) ≡ b → ((q == r) && (u == t)) ≡ false
+    by_test true e = ap (λ b. b && (u == t)) e ∙ eq_turn u t ∙ none ((Decides-eqb q r).0 e)
+    by_test false e = ap (λ b. b && (u == t)) e
 fresh_at_job q r t _ none = refl
 
 fresh_none_by : (r t : ℕ) (e : Event) (before : History) (fresh : Option Fresh) → runs_of t (out_at r before) ≡ false → is_fresh fresh r t ≡ false

@@ -1,9 +1,9 @@
 -- Small laws on tests, and on lists of transactions.
-use Rattle.std.proofs.Common.{◌≡◌, ℕ, Bool, true, false, not, ◌&&◌, ◌||◌, ◌==◌, if◌then◌else◌, cond, List, [], ◌∷◌, ◌++◌, map, filter, Option, Some, None, option_and_then, refl, ap, sym, ◌∙◌, subst}
+use Rattle.std.proofs.Common.{◌≡◌, ℕ, Bool, true, false, not, ◌&&◌, ◌||◌, ◌==◌, if◌then◌else◌, cond, List, [], ◌∷◌, ◌++◌, filter, Option, Some, None, option_and_then, refl, ap, sym, ◌∙◌}
 use Rattle.std.specs.Bool.{one_answer}
 use Rattle.std.specs.List.{list_all}
 use Rattle.std.proofs.lemmas.Bool.Decides.{Decides-eqb}
-use Rattle.hr_engine.specs.Lists.{has, is_empty, once}
+use Rattle.hr_engine.specs.Lists.{has, once}
 use Rattle.hr_engine.specs.Waits.{if_all}
 
 pub eq_turn : (a b : ℕ) → (a == b) ≡ (b == a)
@@ -28,14 +28,14 @@ and_false false b e = refl
 pub has_end : (ts : List ℕ) (u t : ℕ) → has (ts ++ u ∷ []) t ≡ (has ts t || (u == t))
 has_end [] u t = or_nothing (u == t)
   where
-  or_nothing : (b : Bool) → (b || false) ≡ b
-  or_nothing true = refl
-  or_nothing false = refl
+    or_nothing : (b : Bool) → (b || false) ≡ b
+    or_nothing true = refl
+    or_nothing false = refl
 has_end (x ∷ ts) u t = ap (λ b. (x == t) || b) (has_end ts u t) ∙ sym (or_assoc (x == t) (has ts t) (u == t))
   where
-  or_assoc : (a b c : Bool) → ((a || b) || c) ≡ (a || (b || c))
-  or_assoc true b c = refl
-  or_assoc false b c = refl
+    or_assoc : (a b c : Bool) → ((a || b) || c) ≡ (a || (b || c))
+    or_assoc true b c = refl
+    or_assoc false b c = refl
 
 module _ {X : Type 0} (p : X → Bool) where
   filter_head : (x : X) (xs : List X) → p x ≡ true → filter p (x ∷ xs) ≡ x ∷ filter p xs

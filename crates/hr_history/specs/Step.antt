@@ -1,8 +1,6 @@
 -- What an entry makes of a view, by the view alone.
-use Rattle.std.specs.Prelude.{ℕ, ◌+◌, Bool, true, false, not, ◌&&◌, ◌||◌, ◌==◌, nat_le, if◌then◌else◌, Option, Some, None, Ok, Err, List, [], ◌∷◌, ◌++◌, length, map, filter, option_and_then}
+use Rattle.std.specs.Prelude.{ℕ, ◌+◌, Bool, true, false, not, ◌&&◌, ◌==◌, if◌then◌else◌, Option, Some, None, Ok, Err, List, [], ◌∷◌, ◌++◌, length, map, filter, option_and_then}
 use Rattle.hr_rel.specs.declared.answer.Answer.{Answer}
-use Rattle.hr_rel.specs.declared.stmt.Stmt.{Stmt}
-use Rattle.hr_rel.specs.declared.stmt.Stmt.TheVariants as stmt
 use Rattle.hr_engine.specs.Journal.{Call, Ran, Committed, RolledBack, Restarted}
 use Rattle.hr_engine.specs.Base.{shown}
 use Rattle.hr_engine.specs.Lists.{is_empty, once}
@@ -13,20 +11,19 @@ use Rattle.hr_history.specs.declared.entry.Entry.{Entry}
 use Rattle.hr_history.specs.declared.entry.Event.{Event}
 use Rattle.hr_history.specs.declared.entry.Event.TheVariants as event
 use Rattle.hr_history.specs.declared.job.Job.{Job}
-use Rattle.hr_history.specs.declared.job.Job.TheVariants as job
 use Rattle.hr_history.specs.declared.phase.Phase.TheVariants as phase
 use Rattle.hr_history.specs.declared.phase.Last.{Last}
 use Rattle.hr_history.specs.declared.phase.Fresh.{Fresh}
 use Rattle.hr_history.specs.History.{History}
-use Rattle.hr_history.specs.Lists.{when, replica_numbers}
+use Rattle.hr_history.specs.Lists.{replica_numbers}
 use Rattle.hr_history.specs.Transactions.{asks, next_log, next_phase}
 use Rattle.hr_history.specs.Replicas.{any_stmt, next_out, next_convicted, call_told}
 use Rattle.hr_history.specs.Primary.{next_primary, next_search_after}
-use Rattle.hr_history.specs.Given.{Given, Found, next_given}
+use Rattle.hr_history.specs.Given.{Found, next_given}
 use Rattle.hr_history.specs.Attempts.{next_touched, next_preempted, next_places, ends_attempt, still_told, as_told, next_dispatched}
 use Rattle.hr_history.specs.Turn.{next_replies, next_fresh}
 use Rattle.hr_history.specs.View.{View, TxnState, Progress, Attempt, is_fresh, view_of}
-use Rattle.hr_history.specs.Processed.{txn_in, phase_in, replica_in, attempt_in, candidate_in, no_attempt, named_in, cycle_in}
+use Rattle.hr_history.specs.Processed.{txn_in, phase_in, replica_in, attempt_in, candidate_in, named_in, cycle_in}
 use Rattle.hr_history.specs.Jobs.{txn_numbers}
 
 abbrev pub next_answers : ℕ → Call → List Answer → List Answer

@@ -19,7 +19,7 @@ ghost use Rattle.hr_history.specs.Rules.{due};
 ghost use Rattle.hr_history.specs.SameAnswers.{same_answer};
 ghost use Rattle.hr_history.specs.Faithful.{is_begun, is_next, Begun};
 ghost use Rattle.hr_history.specs.View.{view_of};
-ghost use Rattle.hr_history.specs.Step.{step_of};
+ghost use Rattle.hr_history.specs.Step.{view_step};
 
 /// What is stored with one more entry at its end is the history with one more entry.
 pub fn one_more_entry()
@@ -80,13 +80,9 @@ pub fn equal_answers()
     ensures { (a b : Answer) → IsTrue (same_answer a b) ↔ (a ≡ b) }
 {}
 
-/// The view of a history with one more entry is the step of the view before it, in each field but the replicas.
+/// The view of a history that has begun rightly is, with one more entry, the step of the view before it.
 pub fn view_steps()
-    ensures f { (f sessions : ℕ) (e : Entry) (before : History) → Begun f sessions (e ∷ before) → (view_of f (e ∷ before)).f ≡ (step_of f e before).f }
-    ensures log { (f sessions : ℕ) (e : Entry) (before : History) → Begun f sessions (e ∷ before) → (view_of f (e ∷ before)).log ≡ (step_of f e before).log }
-    ensures txns { (f sessions : ℕ) (e : Entry) (before : History) → Begun f sessions (e ∷ before) → (view_of f (e ∷ before)).txns ≡ (step_of f e before).txns }
-    ensures primary { (f sessions : ℕ) (e : Entry) (before : History) → Begun f sessions (e ∷ before) → (view_of f (e ∷ before)).primary ≡ (step_of f e before).primary }
-    ensures search_after { (f sessions : ℕ) (e : Entry) (before : History) → Begun f sessions (e ∷ before) → (view_of f (e ∷ before)).search_after ≡ (step_of f e before).search_after }
-    ensures replies { (f sessions : ℕ) (e : Entry) (before : History) → Begun f sessions (e ∷ before) → (view_of f (e ∷ before)).replies ≡ (step_of f e before).replies }
-    ensures fresh { (f sessions : ℕ) (e : Entry) (before : History) → Begun f sessions (e ∷ before) → (view_of f (e ∷ before)).fresh ≡ (step_of f e before).fresh }
+    ensures view { (f sessions : ℕ) (e : Entry) (before : History) → Begun f sessions (e ∷ before) → view_of f (e ∷ before) ≡ view_step (view_of f before) (length before) (asks before) e.event }
+    ensures stored { (f sessions : ℕ) (entries : List Entry) (e : Entry) → Begun f sessions (history_of (entries ++ e ∷ []))
+        → view_of f (history_of (entries ++ e ∷ [])) ≡ view_step (view_of f (history_of entries)) (length entries) (asks (history_of entries)) e.event }
 {}
