@@ -8,3 +8,4 @@ pub mod WaitLaws
 pub mod CallWords
 pub mod AttemptSteps
 pub mod ViewSteps
+pub mod TurnLemmas

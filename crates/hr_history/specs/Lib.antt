@@ -18,3 +18,4 @@ pub mod Rules
 pub mod Replies
 pub mod Faithful
 pub mod Step
+pub mod Turns

@@ -17,7 +17,8 @@ ghost use Rattle.hr_history.specs.Turn.{turn_start, replies_to_runs, fresh_of, w
 ghost use Rattle.hr_history.specs.Replies.{reply_to, refusal_of, next_reply, next_refusal};
 ghost use Rattle.hr_history.specs.Rules.{due};
 ghost use Rattle.hr_history.specs.SameAnswers.{same_answer};
-ghost use Rattle.hr_history.specs.Faithful.{is_begun, is_next, Begun};
+ghost use Rattle.hr_history.specs.Faithful.{is_begun, is_next, Begun, Faithful};
+ghost use Rattle.hr_history.specs.Turns.{IsMadeOfTurns};
 ghost use Rattle.hr_history.specs.View.{view_of};
 ghost use Rattle.hr_history.specs.Step.{view_step};
 
@@ -85,4 +86,10 @@ pub fn view_steps()
     ensures view { (f sessions : ℕ) (e : Entry) (before : History) → Begun f sessions (e ∷ before) → view_of f (e ∷ before) ≡ view_step (view_of f before) (length before) (asks before) e.event }
     ensures stored { (f sessions : ℕ) (entries : List Entry) (e : Entry) → Begun f sessions (history_of (entries ++ e ∷ []))
         → view_of f (history_of (entries ++ e ∷ [])) ≡ view_step (view_of f (history_of entries)) (length entries) (asks (history_of entries)) e.event }
+{}
+
+/// A history is faithful exactly where it is made of turns: each an allowed call, and then what is due, again and again,
+/// until nothing is.
+pub fn turns()
+    ensures { (f sessions : ℕ) (h : History) → Faithful f sessions h ↔ IsMadeOfTurns f sessions h }
 {}
