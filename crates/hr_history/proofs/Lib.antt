@@ -9,3 +9,4 @@ pub mod CallWords
 pub mod AttemptSteps
 pub mod ViewSteps
 pub mod TurnLemmas
+pub mod Chains
