@@ -8,15 +8,15 @@ use Rattle.hr_engine.specs.Waits.{is_chain, Leads, is_list_of_running, IsSoundBl
 use Rattle.hr_history.specs.Evidence.{reached, is_sound_blocked}
 use Rattle.hr_history.proofs.StepLemmas.{both}
 
-or_split : (a b : Bool) → (a || b) ≡ true → (a ≡ true) ⊎ (b ≡ true)
+pub or_split : (a b : Bool) → (a || b) ≡ true → (a ≡ true) ⊎ (b ≡ true)
 or_split true b h = inl refl
 or_split false b h = inr h
 
-or_second : (a b : Bool) → b ≡ true → (a || b) ≡ true
+pub or_second : (a b : Bool) → b ≡ true → (a || b) ≡ true
 or_second true b h = refl
 or_second false b h = h
 
-or_first : (a b : Bool) → a ≡ true → (a || b) ≡ true
+pub or_first : (a b : Bool) → a ≡ true → (a || b) ≡ true
 or_first true b h = refl
 or_first false b h = cc
 
@@ -36,10 +36,10 @@ in_once (x ∷ xs) u h = part_of_head true x u xs (filter (λ v. not (v == x)) (
 
 module _ (waits : ℕ → List ℕ) where
   -- one of the list waits for u
-  record Waiter (ts : List ℕ) (u : ℕ) : Type 0 where
-    one : ℕ
-    listed : has ts one ≡ true
-    waits_for : has (waits one) u ≡ true
+  pub record Waiter (ts : List ℕ) (u : ℕ) : Type 0 where
+    pub one : ℕ
+    pub listed : has ts one ≡ true
+    pub waits_for : has (waits one) u ≡ true
 
   in_flat : (ts : List ℕ) (u : ℕ) → has (flat_map waits ts) u ≡ true → Waiter ts u
   in_flat [] u h = cc
@@ -51,8 +51,8 @@ module _ (waits : ℕ → List ℕ) where
 
   -- a chain of waits leads from one of the list to u
   record From (ts : List ℕ) (u : ℕ) : Type 0 where
-    one : ℕ
-    listed : has ts one ≡ true
+    pub one : ℕ
+    pub listed : has ts one ≡ true
     leads : Leads waits one u
 
   and_true : (b : Bool) → b ≡ true → (b && true) ≡ true
@@ -69,7 +69,7 @@ module _ (waits : ℕ → List ℕ) where
   by_more : (t v u : ℕ) → has (waits t) v ≡ true → Leads waits v u → Leads waits t u
   by_more t v u e l = (v ∷ l.0, and_more (has (waits t) v) _ e l.1)
 
-  in_next : (ts : List ℕ) (u : ℕ) → has (once (ts ++ flat_map waits ts)) u ≡ true → (has ts u ≡ true) ⊎ Waiter ts u
+  pub in_next : (ts : List ℕ) (u : ℕ) → has (once (ts ++ flat_map waits ts)) u ≡ true → (has ts u ≡ true) ⊎ Waiter ts u
   in_next ts u h =
       ⊎_elim (λ (e : has ts u ≡ true). inl e) (λ (e : has (flat_map waits ts) u ≡ true). inr (in_flat ts u e))
         (or_split (has ts u) (has (flat_map waits ts) u) (sym (list_any-append (λ v. v == u) ts (flat_map waits ts)) ∙ in_once (ts ++ flat_map waits ts) u h))
@@ -103,4 +103,4 @@ module _ (waits : ℕ → List ℕ) where
   pub sound_passes : (running : ℕ → Bool) (n asker : ℕ) (named : List ℕ) → IsSoundBlocked running waits asker named → IsTrue (is_sound_blocked running waits n asker named)
   sound_passes running n asker named sound =
       let other = not_false (has named asker) (both (not (is_empty named) && is_ascending named) _ (both _ _ sound.listed).0).1 in
-      and_more (is_list_of_running running asker named) _ sound.listed (not_reached (has (reached waits n named) asker) running n asker named refl other sound)
+      and_more (is_list_of_running running asker named) _ sound.listed (not_reached (has (reached waits (suc n) named) asker) running (suc n) asker named refl other sound)

@@ -10,3 +10,5 @@ pub mod AttemptSteps
 pub mod ViewSteps
 pub mod TurnLemmas
 pub mod Chains
+pub mod Closure
+pub mod BlockedReplies

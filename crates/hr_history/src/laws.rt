@@ -19,7 +19,10 @@ ghost use Rattle.hr_history.specs.Rules.{due};
 ghost use Rattle.hr_history.specs.SameAnswers.{same_answer};
 ghost use Rattle.hr_history.specs.Faithful.{is_begun, is_next, Begun, Faithful};
 ghost use Rattle.hr_history.specs.Turns.{IsMadeOfTurns};
-ghost use Rattle.hr_history.specs.View.{view_of};
+ghost use Rattle.hr_history.specs.View.{View, view_of};
+ghost use Rattle.hr_history.specs.Processed.{replica_in, runs_in, wait_in};
+ghost use Rattle.hr_history.specs.Evidence.{is_sound_blocked};
+ghost use Rattle.hr_engine.specs.Waits.{IsSoundBlocked};
 ghost use Rattle.hr_history.specs.Step.{view_step};
 
 /// What is stored with one more entry at its end is the history with one more entry.
@@ -92,4 +95,10 @@ pub fn view_steps()
 /// until nothing is.
 pub fn turns()
     ensures { (f sessions : ℕ) (h : History) → Faithful f sessions h ↔ IsMadeOfTurns f sessions h }
+{}
+
+/// A Blocked reply passes the test of evidence exactly where it is one that a rigorous journal may have: it names some
+/// others that run, in ascending order, and no chain of waits leads from one of them to the asker.
+pub fn blocked_replies()
+    ensures { (v : View) (r asker : ℕ) (named : List ℕ) → IsTrue (is_sound_blocked (runs_in v r) (wait_in v r) (length (replica_in v r).attempts) asker named) ↔ IsSoundBlocked (runs_in v r) (wait_in v r) asker named }
 {}
