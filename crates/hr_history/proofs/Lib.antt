@@ -2,3 +2,13 @@ pub mod SameAnswersLemmas
 pub mod StepLemmas
 pub mod TxnSteps
 pub mod ReplicaSteps
+pub mod Tests
+pub mod Quiet
+pub mod WaitLaws
+pub mod CallWords
+pub mod AttemptSteps
+pub mod ViewSteps
+pub mod TurnLemmas
+pub mod Chains
+pub mod Closure
+pub mod BlockedReplies

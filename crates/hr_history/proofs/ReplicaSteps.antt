@@ -1,5 +1,5 @@
 -- The replicas of a view, one entry later.
-use Rattle.std.proofs.Common.{◌≡◌, ℕ, zero, suc, ◌+◌, ◌*◌, ◌<◌, ◌≤◌, Bool, true, false, not, ◌&&◌, cond, Option, Some, None, List, [], ◌∷◌, ◌++◌, take, drop, refl, ap, sym, ◌∙◌, arith}
+use Rattle.std.proofs.Common.{◌≡◌, ℕ, zero, suc, ◌+◌, ◌*◌, ◌<◌, ◌≤◌, Bool, not, ◌&&◌, cond, Some, List, [], ◌∷◌, ◌++◌, take, drop, refl, ap, sym, arith}
 use Rattle.std.specs.Prelude.{find}
 use Rattle.std.specs.List.{range_with_len}
 use Rattle.hr_history.specs.History.{History}
@@ -47,5 +47,5 @@ candidate_same f h =
     let start = search_after f h in
     let all = within_range n 0 n (omega arith) in
     let round = within_append n (drop (start + 1) (replica_numbers f)) (take (start + 1) (replica_numbers f))
-        (within_drop n (start + 1) (replica_numbers f) all) (within_take n (start + 1) (replica_numbers f) all) in
+    (within_drop n (start + 1) (replica_numbers f) all) (within_take n (start + 1) (replica_numbers f) all) in
     find_same n (λ r. is_live r h) (live_in (view_of f h)) (λ r lt. live_same f r h lt) (replicas_after f start) round

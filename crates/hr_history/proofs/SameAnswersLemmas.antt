@@ -1,15 +1,14 @@
 -- `same_answer` tells exactly whether two answers are one.
-use Rattle.std.proofs.Common.{◌≡◌, ℕ, ℤ, true, IsTrue, ◌↔◌, List, [], ◌∷◌, refl, ap, subst}
+use Rattle.std.proofs.Common.{◌≡◌, true, IsTrue, ◌↔◌, [], ◌∷◌, refl, ap, subst}
 use Rattle.std.specs.Cmp.{eq_by_cmp_equiv, signed_Decides}
 use Rattle.std.specs.Cmp.Lexicographic.{slice_cmp}
-use Rattle.std.specs.Ordering.{ordering_then, int_eq, is_eq, eq_by_cmp}
+use Rattle.std.specs.Ordering.{ordering_then}
 use Rattle.std.specs.declared.cmp.Ordering.{Ordering}
 use Rattle.std.specs.declared.cmp.Ordering.TheVariants.{Less, Equal, Greater}
 use Rattle.std.proofs.lemmas.Cmp.{lists_total, int_eq_equiv, nat_eq_equiv}
 use Rattle.std.proofs.lemmas.Map.Lookups.{CmpEqualImpliesEq}
 use Rattle.std.proofs.lemmas.Bool.Decides.{Decides-eqb}
 use Rattle.std.proofs.lemmas.Map.Views.{tells_apart}
-use Rattle.hr_rel.specs.declared.value.Value.{Value}
 use Rattle.hr_rel.specs.declared.answer.Answer.{Answer}
 use Rattle.hr_rel.specs.declared.answer.Answer.TheVariants.{Rows, Count, Failed}
 use Rattle.hr_rel.specs.declared.answer.RunError.{RunError}

@@ -1,5 +1,5 @@
 -- Field by field, the view of a history with one more entry is the step of the view before it.
-use Rattle.std.proofs.Common.{◌≡◌, ℕ, zero, suc, ◌+◌, ◌*◌, ◌<◌, ◌≤◌, Bool, true, false, ◌&&◌, nat_le, Option, Some, None, unwrap_or, List, [], ◌∷◌, ◌++◌, length, map, slice_get, refl, ap, subst, sym, ◌∙◌, arith}
+use Rattle.std.proofs.Common.{◌≡◌, ℕ, zero, suc, ◌+◌, ◌*◌, ◌<◌, ◌≤◌, Bool, true, false, ◌&&◌, Option, Some, None, unwrap_or, ◌∷◌, length, map, slice_get, refl, ap, ◌∙◌, arith}
 use Rattle.std.specs.Option.{option_map}
 use Rattle.std.specs.List.{range_with_len}
 use Rattle.std.proofs.lemmas.Option.{slice_get-map}
@@ -7,15 +7,11 @@ use Rattle.hr_history.specs.declared.entry.Entry.{Entry}
 use Rattle.hr_history.specs.declared.entry.Event.{Event}
 use Rattle.hr_history.specs.declared.entry.Event.TheVariants as event
 use Rattle.hr_history.specs.History.{History, is_call}
-use Rattle.hr_history.specs.Lists.{replica_numbers}
-use Rattle.hr_history.specs.Transactions.{begun, asks}
-use Rattle.hr_history.specs.Replicas.{out_at}
-use Rattle.hr_history.specs.Turn.{next_fresh, fresh_of}
-use Rattle.hr_history.specs.View.{View, view_of, txn_state, progress_in}
+use Rattle.hr_history.specs.Transactions.{begun}
+use Rattle.hr_history.specs.View.{view_of, txn_state, progress_in}
 use Rattle.hr_history.specs.Processed.{replica_in, txn_in, idle_replica, unknown_txn}
 use Rattle.hr_history.specs.Rules.{due}
-use Rattle.hr_history.specs.Faithful.{is_begun, is_next, is_allowed, same_event, is_replica}
-use Rattle.hr_history.specs.Step.{out_in}
+use Rattle.hr_history.specs.Faithful.{is_begun, is_next, is_allowed, same_event}
 
 pub both : (a b : Bool) → (a && b) ≡ true → (a ≡ true) × (b ≡ true)
 both true b h = (refl, h)

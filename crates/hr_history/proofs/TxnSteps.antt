@@ -1,5 +1,5 @@
 -- The transactions of a view, one entry later.
-use Rattle.std.proofs.Common.{◌≡◌, ℕ, zero, suc, ◌+◌, ◌*◌, ◌<◌, ◌≤◌, Bool, true, false, ◌&&◌, ◌==◌, if◌then◌else◌, Option, Some, None, unwrap_or, List, [], ◌∷◌, ◌++◌, length, map, slice_get, refl, ap, subst, sym, ◌∙◌, arith, ◌⊎◌, nat_le}
+use Rattle.std.proofs.Common.{◌≡◌, ℕ, zero, suc, ◌+◌, ◌*◌, ◌<◌, ◌≤◌, Bool, true, false, ◌&&◌, ◌==◌, if◌then◌else◌, Option, Some, unwrap_or, List, [], ◌∷◌, ◌++◌, length, map, slice_get, refl, ap, subst, sym, ◌∙◌, arith, nat_le}
 use Rattle.std.specs.List.{range_with_len}
 use Rattle.std.proofs.lemmas.List.{length-append, append-nil}
 use Rattle.std.proofs.lemmas.List.FromFn.{length-map-range_with_len, map-range_with_len_more}
@@ -10,23 +10,20 @@ use Rattle.hr_engine.specs.declared.reply.RunReply.TheVariants as run
 use Rattle.hr_history.specs.declared.entry.Entry.{Entry}
 use Rattle.hr_history.specs.declared.entry.Event.{Event}
 use Rattle.hr_history.specs.declared.entry.Event.TheVariants as event
-use Rattle.hr_history.specs.declared.job.Job.{Job}
 use Rattle.hr_history.specs.declared.job.JobReply.{JobReply}
 use Rattle.hr_history.specs.declared.job.JobReply.TheVariants as reply
-use Rattle.hr_history.specs.declared.phase.Phase.{Phase}
 use Rattle.hr_history.specs.declared.phase.Phase.TheVariants as phase
 use Rattle.hr_history.specs.declared.phase.Fresh.{Fresh}
 use Rattle.hr_history.specs.History.{History, is_call}
 use Rattle.hr_history.specs.Lists.{numbered, one_to}
-use Rattle.hr_history.specs.Transactions.{begun, next_begun, session_of, log, asks, submits, next_submits, phase_of, next_phase, is_open}
+use Rattle.hr_history.specs.Transactions.{begun, next_begun, log, asks, submits, next_submits, phase_of, next_phase, is_open}
 use Rattle.hr_history.specs.Replicas.{out_at}
-use Rattle.hr_history.specs.Primary.{primary_of, is_some_of}
+use Rattle.hr_history.specs.Primary.{is_some_of}
 use Rattle.hr_history.specs.Given.{Given, Found, found, given_by, next_given, given_to, is_run_of}
 use Rattle.hr_history.specs.Turn.{next_fresh}
-use Rattle.hr_history.specs.View.{View, TxnState, view_of, txn_state, progress_in}
-use Rattle.hr_history.specs.Processed.{replica_in, txn_in, phase_in}
+use Rattle.hr_history.specs.View.{TxnState, view_of, txn_state}
 use Rattle.hr_history.specs.Jobs.{txn_numbers}
-use Rattle.hr_history.specs.Faithful.{is_begun, is_allowed, is_replica, fits_job}
+use Rattle.hr_history.specs.Faithful.{is_allowed, is_replica}
 use Rattle.hr_history.specs.Step.{out_in, found_in, next_count, begun_by, txn_after}
 use Rattle.hr_history.proofs.StepLemmas.{both, replica_lookup, txn_lookup}
 
@@ -39,7 +36,7 @@ replica_within f c r rest a =
     let le = le_of r (2 * f) (both (nat_le r (2 * f)) _ (both (is_replica f c r) rest a).0).0 in
     omega (arith, le)
 
-out_same : (f r : ℕ) (h : History) → r < 2 * f + 1 → out_at r h ≡ out_in (view_of f h) r
+pub out_same : (f r : ℕ) (h : History) → r < 2 * f + 1 → out_at r h ≡ out_in (view_of f h) r
 out_same f r h lt = sym (ap (λ p. p.out) (replica_lookup f r h lt))
 
 -- the run that the turn's call replied to
@@ -59,7 +56,7 @@ given_after : (f s c t : ℕ) (e : Event) (h : History) (g : List Given) → 1 �
     → next_given t e (found t h) g ≡ next_given t e (found_in (view_of f h) t) g
 given_after f s c t (event.Give r told) h g low high a =
     given_same t r told g (found t h) (found_in (view_of f h) t) (out_same f r h (replica_within f c r _ (a refl))) refl
-        (sym (ap (λ (x : TxnState). x.phase) (txn_lookup f t h low high))) refl
+    (sym (ap (λ (x : TxnState). x.phase) (txn_lookup f t h low high))) refl
 given_after f s c t e h g low high a = refl
 
 -- how many statements a transaction has
@@ -130,8 +127,8 @@ new_txn : (c session txn : ℕ) (h : History) → txn ≡ length (begun h) + 1
 new_txn c session txn h e =
     let same : (txn == length (begun h) + 1) ≡ true = (Decides-eqb txn (length (begun h) + 1)).1 e in
     let numbered_end : numbered (begun h ++ session ∷ []) (length (begun h) + 1) ≡ Some session =
-        let place : suc (length (begun h)) ≡ length (begun h) + 1 = omega arith in
-        subst (λ n. numbered (begun h ++ session ∷ []) n ≡ Some session) place (slice_get_end (begun h) session (length (begun h)) refl) in
+    let place : suc (length (begun h)) ≡ length (begun h) + 1 = omega arith in
+    subst (λ n. numbered (begun h ++ session ∷ []) n ≡ Some session) place (slice_get_end (begun h) session (length (begun h)) refl) in
     let t = length (begun h) + 1 in
     λ i. record {
       session = unwrap_or (numbered_end i) 0;

@@ -11,7 +11,7 @@ use Rattle.hr_history.specs.declared.job.Job.TheVariants as job
 use Rattle.hr_history.specs.declared.phase.Last.{Last}
 use Rattle.hr_history.specs.declared.phase.Last.TheVariants as last
 use Rattle.hr_history.specs.History.{History}
-use Rattle.hr_history.specs.Replicas.{call_at}
+use Rattle.hr_history.specs.Replicas.{call_at, journal_of}
 
 abbrev pub next_touched : ℕ → Call → Bool → Bool
 next_touched t (Ran u stmt (run.Done answer)) was = (t == u) || was
@@ -48,15 +48,15 @@ abbrev pub unless_ended : ℕ → Option Call → Bool → Bool
 unless_ended t None was = was
 unless_ended t (Some call) was = not (ends_attempt t call) && was
 
--- what an entry makes of it, where it tells such a call of replica r
-abbrev pub next_preempted : ℕ → ℕ → Event → Option Call → Bool → Bool
-next_preempted r t (event.Preempt replica txn) call was = ((replica == r) && (txn == t)) || was
-next_preempted r t e call was = unless_ended t call was
+-- what an entry makes of it, where it tells such a call of replica r, and there was something to roll back or not
+abbrev pub next_preempted : ℕ → ℕ → Event → Option Call → Bool → Bool → Bool
+next_preempted r t (event.Preempt replica txn) call touched was = ((replica == r) && (txn == t) && touched) || was
+next_preempted r t e call touched was = unless_ended t call was
 
 -- whether a transaction was preempted at a replica since its attempt there began anew: it is to be rolled back there
 abbrev pub is_preempted : ℕ → ℕ → History → Bool
 is_preempted r t [] = false
-is_preempted r t (e ∷ before) = next_preempted r t e.event (call_at r e.event before) (is_preempted r t before)
+is_preempted r t (e ∷ before) = next_preempted r t e.event (call_at r e.event before) (is_touched t (journal_of r before)) (is_preempted r t before)
 
 -- whether a call adds an answer to the attempt of transaction t
 abbrev pub adds_answer : ℕ → Call → Bool

@@ -22,9 +22,9 @@ reached waits zero ts = ts
 reached waits (suc n) ts = reached waits n (once (ts ++ flat_map waits ts))
 
 -- Whether a Blocked reply to `asker` is sound: it names some others that run, in ascending order, and from none of them
--- does a chain of waits lead to the asker. With n transactions that wait, no chain needs more than n steps.
+-- does a chain of waits lead to the asker. Where n transactions wait, at most n + 1 steps reach all that any chain does.
 abbrev pub is_sound_blocked : (ℕ → Bool) → (ℕ → List ℕ) → ℕ → ℕ → List ℕ → Bool
-is_sound_blocked running waits n asker named = is_list_of_running running asker named && not (has (reached waits n named) asker)
+is_sound_blocked running waits n asker named = is_list_of_running running asker named && not (has (reached waits (suc n) named) asker)
 
 -- the transaction to whose run this replica replied in this turn's call
 abbrev pub asker_of : ℕ → Option Fresh → Option ℕ

@@ -15,6 +15,8 @@ pub mod Jobs
 pub mod Preemption
 pub mod Evidence
 pub mod Rules
+pub mod Words
 pub mod Replies
 pub mod Faithful
 pub mod Step
+pub mod Turns

@@ -1,7 +1,7 @@
 -- What a history tells of each replica.
-use Rattle.std.specs.Prelude.{ℕ, Bool, true, false, ◌||◌, ◌==◌, if◌then◌else◌, Option, Some, None, Ok, Err, [], ◌∷◌}
-use Rattle.std.specs.Option.{option_map}
+use Rattle.std.specs.Prelude.{ℕ, Bool, true, false, ◌||◌, ◌==◌, if◌then◌else◌, Option, Some, None, unwrap_or, Ok, Err, [], ◌∷◌}
 use Rattle.hr_rel.specs.declared.stmt.Stmt.{Stmt}
+use Rattle.hr_rel.specs.declared.stmt.Stmt.TheVariants as stmt
 use Rattle.hr_engine.specs.Journal.{Call, Ran, Committed, RolledBack, Restarted, Journal}
 use Rattle.hr_engine.specs.Base.{count, settled}
 use Rattle.hr_engine.specs.declared.reply.RunReply.TheVariants as run
@@ -27,13 +27,17 @@ abbrev pub out_at : ℕ → History → Option Job
 out_at r [] = None
 out_at r (e ∷ before) = next_out r e.event (out_at r before)
 
--- the statement with this number of a transaction, from 1
-abbrev pub stmt_at : History → ℕ → ℕ → Option Stmt
-stmt_at h t i = numbered (submits t h) i
+-- where it doesn't matter which, any statement serves
+abbrev pub any_stmt : Stmt
+any_stmt = stmt.Delete record { table = 0; filter = None }
+
+-- the statement with this number of a transaction, from 1; a statement that was never submitted is never run
+abbrev pub stmt_at : History → ℕ → ℕ → Stmt
+stmt_at h t i = unwrap_or (numbered (submits t h) i) any_stmt
 
 -- the backend's call that a job and its reply are; a run's statement is found by the transaction and the index
-abbrev pub call_of : Option Job → JobReply → (ℕ → ℕ → Option Stmt) → Option Call
-call_of (Some (job.Run t i)) (reply.Ran told) stmt = option_map (λ (s : Stmt). Ran t s told) (stmt t i)
+abbrev pub call_of : Option Job → JobReply → (ℕ → ℕ → Stmt) → Option Call
+call_of (Some (job.Run t i)) (reply.Ran told) stmt = Some (Ran t (stmt t i) told)
 call_of (Some (job.Commit t)) (reply.Ended told) stmt = Some (Committed t told)
 call_of (Some (job.Rollback t)) (reply.Ended told) stmt = Some (RolledBack t told)
 call_of (Some job.Restart) reply.StillLost stmt = Some (Restarted (Err record {}))
@@ -43,7 +47,7 @@ abbrev pub restart_of : Option Job → ℕ → Option Call
 restart_of (Some job.Restart) count = Some (Restarted (Ok count))
 restart_of _ count = None
 
-abbrev pub call_if : Bool → ℕ → JobReply → (ℕ → Option Job) → (ℕ → ℕ → Option Stmt) → Option Call
+abbrev pub call_if : Bool → ℕ → JobReply → (ℕ → Option Job) → (ℕ → ℕ → Stmt) → Option Call
 call_if true r told out stmt = call_of (out r) told stmt
 call_if false r told out stmt = None
 
@@ -53,7 +57,7 @@ restart_if false r count out = None
 
 -- the call of replica r's backend that an event tells, with its reply, where such a job was out at each replica and the
 -- statements were these
-abbrev pub call_told : ℕ → Event → (ℕ → Option Job) → (ℕ → ℕ → Option Stmt) → Option Call
+abbrev pub call_told : ℕ → Event → (ℕ → Option Job) → (ℕ → ℕ → Stmt) → Option Call
 call_told r (event.Give replica told) out stmt = call_if (replica == r) r told out stmt
 call_told r (event.Restarted replica count) out stmt = restart_if (replica == r) r count out
 call_told r _ out stmt = None

@@ -1,8 +1,6 @@
 -- What an entry makes of a view, by the view alone.
-use Rattle.std.specs.Prelude.{ℕ, ◌+◌, Bool, true, false, not, ◌&&◌, ◌||◌, ◌==◌, nat_le, if◌then◌else◌, Option, Some, None, Ok, Err, List, [], ◌∷◌, ◌++◌, length, map, filter, option_and_then}
+use Rattle.std.specs.Prelude.{ℕ, ◌+◌, Bool, true, false, not, ◌&&◌, ◌==◌, if◌then◌else◌, Option, Some, None, Ok, Err, List, [], ◌∷◌, ◌++◌, length, map, filter, option_and_then}
 use Rattle.hr_rel.specs.declared.answer.Answer.{Answer}
-use Rattle.hr_rel.specs.declared.stmt.Stmt.{Stmt}
-use Rattle.hr_rel.specs.declared.stmt.Stmt.TheVariants as stmt
 use Rattle.hr_engine.specs.Journal.{Call, Ran, Committed, RolledBack, Restarted}
 use Rattle.hr_engine.specs.Base.{shown}
 use Rattle.hr_engine.specs.Lists.{is_empty, once}
@@ -13,25 +11,20 @@ use Rattle.hr_history.specs.declared.entry.Entry.{Entry}
 use Rattle.hr_history.specs.declared.entry.Event.{Event}
 use Rattle.hr_history.specs.declared.entry.Event.TheVariants as event
 use Rattle.hr_history.specs.declared.job.Job.{Job}
-use Rattle.hr_history.specs.declared.job.Job.TheVariants as job
 use Rattle.hr_history.specs.declared.phase.Phase.TheVariants as phase
 use Rattle.hr_history.specs.declared.phase.Last.{Last}
 use Rattle.hr_history.specs.declared.phase.Fresh.{Fresh}
 use Rattle.hr_history.specs.History.{History}
-use Rattle.hr_history.specs.Lists.{when, replica_numbers}
+use Rattle.hr_history.specs.Lists.{replica_numbers}
 use Rattle.hr_history.specs.Transactions.{asks, next_log, next_phase}
-use Rattle.hr_history.specs.Replicas.{next_out, next_convicted, call_told}
+use Rattle.hr_history.specs.Replicas.{any_stmt, next_out, next_convicted, call_told}
 use Rattle.hr_history.specs.Primary.{next_primary, next_search_after}
-use Rattle.hr_history.specs.Given.{Given, Found, next_given}
+use Rattle.hr_history.specs.Given.{Found, next_given}
 use Rattle.hr_history.specs.Attempts.{next_touched, next_preempted, next_places, ends_attempt, still_told, as_told, next_dispatched}
 use Rattle.hr_history.specs.Turn.{next_replies, next_fresh}
 use Rattle.hr_history.specs.View.{View, TxnState, Progress, Attempt, is_fresh, view_of}
-use Rattle.hr_history.specs.Processed.{txn_in, phase_in, replica_in, attempt_in, candidate_in, no_attempt, named_in, cycle_in}
+use Rattle.hr_history.specs.Processed.{txn_in, phase_in, replica_in, attempt_in, candidate_in, named_in, cycle_in}
 use Rattle.hr_history.specs.Jobs.{txn_numbers}
-
--- Where only its being there matters, any statement serves.
-abbrev pub any_stmt : Stmt
-any_stmt = stmt.Delete record { table = 0; filter = None }
 
 abbrev pub next_answers : ℕ → Call → List Answer → List Answer
 next_answers t (Ran u stmt (run.Done answer)) answers = if t == u then answers ++ answer ∷ [] else answers
@@ -82,20 +75,22 @@ abbrev pub settled_after : Option Call → Settled → Settled
 settled_after None s = s
 settled_after (Some call) s = next_settled call s
 
+-- what was told just now, if it was, and else what is still told
+abbrev pub last_if : Bool → Option Last → Last → Last
+last_if false told still = still
+last_if true None still = still
+last_if true (Some told) still = told
+
 module _ (v : View) where
   abbrev pub out_in : ℕ → Option Job
   out_in r = (replica_in v r).out
 
-  -- the statement with this number, if the transaction has so many
-  abbrev pub stmt_in : ℕ → ℕ → Option Stmt
-  stmt_in t i = when (nat_le 1 i && nat_le i (txn_in v t).statements) any_stmt
-
   abbrev pub found_in : ℕ → Found
   found_in t = record { out = out_in; primary = v.primary; phase = phase_in v t; logged = length v.log }
 
-  -- the call of replica r's backend that an event tells
+  -- the call of replica r's backend that an event tells; which statement a run is of doesn't matter here
   abbrev pub call_in : ℕ → Event → Option Call
-  call_in r e = call_told r e out_in stmt_in
+  call_in r e = call_told r e out_in (λ t i. any_stmt)
 
   abbrev pub fresh_after : Event → Option Fresh
   fresh_after e = next_fresh e out_in v.fresh
@@ -124,11 +119,6 @@ module _ (v : View) where
   abbrev pub runs_after : ℕ → Call → ℕ → Bool
   runs_after r call t = not (is_empty (next_answers t call (attempt_in v r t).answers))
 
-  abbrev pub last_if : Bool → Option Last → Last → Last
-  last_if false told still = still
-  last_if true None still = still
-  last_if true (Some told) still = told
-
   abbrev pub last_by_call : Bool → ℕ → ℕ → Call → Last
   last_by_call fresh r t call = last_if fresh (as_told t (call ∷ [])) (still_told
       (filter (runs_after r call) (next_wait t call (wait_left r t)))
@@ -146,7 +136,7 @@ module _ (v : View) where
     places = next_places t (call_in r e) place (attempt_in v r t).places;
     last = last_after e r t (call_in r e);
     touched = touched_after t (call_in r e) (attempt_in v r t).touched;
-    preempted = next_preempted r t e (call_in r e) (attempt_in v r t).preempted;
+    preempted = next_preempted r t e (call_in r e) (attempt_in v r t).touched (attempt_in v r t).preempted;
   }
 
   abbrev pub settled_in : ℕ → Settled

@@ -11,15 +11,19 @@ ghost use Rattle.hr_history.specs.History.{History, history_of, is_call};
 ghost use Rattle.hr_history.specs.Transactions.{begun, log, asks, submits, submitted, phase_of, next_begun, next_log, next_asks, next_submits, next_submitted, next_phase};
 ghost use Rattle.hr_history.specs.Given.{given_to, found, next_given};
 ghost use Rattle.hr_history.specs.Replicas.{out_at, journal_of, is_convicted, call_at, next_out, next_journal, next_convicted};
-ghost use Rattle.hr_history.specs.Attempts.{is_preempted, places_told, dispatched, next_preempted, next_places, next_dispatched};
+ghost use Rattle.hr_history.specs.Attempts.{is_touched, is_preempted, places_told, dispatched, next_preempted, next_places, next_dispatched};
 ghost use Rattle.hr_history.specs.Primary.{primary_of, search_after, candidate_of, next_primary, next_search_after};
 ghost use Rattle.hr_history.specs.Turn.{turn_start, replies_to_runs, fresh_of, went, bad_count, owed, is_sound_count, next_replies, next_fresh, next_went, next_bad_count, owed_after};
 ghost use Rattle.hr_history.specs.Replies.{reply_to, refusal_of, next_reply, next_refusal};
 ghost use Rattle.hr_history.specs.Rules.{due};
 ghost use Rattle.hr_history.specs.SameAnswers.{same_answer};
-ghost use Rattle.hr_history.specs.Faithful.{is_begun, is_next, Begun};
-ghost use Rattle.hr_history.specs.View.{view_of};
-ghost use Rattle.hr_history.specs.Step.{step_of};
+ghost use Rattle.hr_history.specs.Faithful.{is_begun, is_next, Begun, Faithful};
+ghost use Rattle.hr_history.specs.Turns.{IsMadeOfTurns};
+ghost use Rattle.hr_history.specs.View.{View, view_of};
+ghost use Rattle.hr_history.specs.Processed.{replica_in, runs_in, wait_in};
+ghost use Rattle.hr_history.specs.Evidence.{is_sound_blocked};
+ghost use Rattle.hr_engine.specs.Waits.{IsSoundBlocked};
+ghost use Rattle.hr_history.specs.Step.{view_step};
 
 /// What is stored with one more entry at its end is the history with one more entry.
 pub fn one_more_entry()
@@ -42,7 +46,7 @@ pub fn replicas()
     ensures out_at { (r : ℕ) (entries : List Entry) (e : Entry) → out_at r (history_of (entries ++ e ∷ [])) ≡ next_out r e.event (out_at r (history_of entries)) }
     ensures journal_of { (r : ℕ) (entries : List Entry) (e : Entry) → journal_of r (history_of (entries ++ e ∷ [])) ≡ next_journal (call_at r e.event (history_of entries)) (journal_of r (history_of entries)) }
     ensures is_convicted { (r : ℕ) (entries : List Entry) (e : Entry) → is_convicted r (history_of (entries ++ e ∷ [])) ≡ next_convicted r e.event (is_convicted r (history_of entries)) }
-    ensures is_preempted { (r : ℕ) (t : ℕ) (entries : List Entry) (e : Entry) → is_preempted r t (history_of (entries ++ e ∷ [])) ≡ next_preempted r t e.event (call_at r e.event (history_of entries)) (is_preempted r t (history_of entries)) }
+    ensures is_preempted { (r : ℕ) (t : ℕ) (entries : List Entry) (e : Entry) → is_preempted r t (history_of (entries ++ e ∷ [])) ≡ next_preempted r t e.event (call_at r e.event (history_of entries)) (is_touched t (journal_of r (history_of entries))) (is_preempted r t (history_of entries)) }
     ensures places_told { (r : ℕ) (t : ℕ) (entries : List Entry) (e : Entry) → places_told r t (history_of (entries ++ e ∷ [])) ≡ next_places t (call_at r e.event (history_of entries)) (length (history_of entries)) (places_told r t (history_of entries)) }
     ensures dispatched { (r : ℕ) (entries : List Entry) (e : Entry) → dispatched r (history_of (entries ++ e ∷ [])) ≡ next_dispatched r e.event (dispatched r (history_of entries)) }
 {}
@@ -80,13 +84,21 @@ pub fn equal_answers()
     ensures { (a b : Answer) → IsTrue (same_answer a b) ↔ (a ≡ b) }
 {}
 
-/// The view of a history with one more entry is the step of the view before it, in each field but the replicas.
+/// The view of a history that has begun rightly is, with one more entry, the step of the view before it.
 pub fn view_steps()
-    ensures f { (f sessions : ℕ) (e : Entry) (before : History) → Begun f sessions (e ∷ before) → (view_of f (e ∷ before)).f ≡ (step_of f e before).f }
-    ensures log { (f sessions : ℕ) (e : Entry) (before : History) → Begun f sessions (e ∷ before) → (view_of f (e ∷ before)).log ≡ (step_of f e before).log }
-    ensures txns { (f sessions : ℕ) (e : Entry) (before : History) → Begun f sessions (e ∷ before) → (view_of f (e ∷ before)).txns ≡ (step_of f e before).txns }
-    ensures primary { (f sessions : ℕ) (e : Entry) (before : History) → Begun f sessions (e ∷ before) → (view_of f (e ∷ before)).primary ≡ (step_of f e before).primary }
-    ensures search_after { (f sessions : ℕ) (e : Entry) (before : History) → Begun f sessions (e ∷ before) → (view_of f (e ∷ before)).search_after ≡ (step_of f e before).search_after }
-    ensures replies { (f sessions : ℕ) (e : Entry) (before : History) → Begun f sessions (e ∷ before) → (view_of f (e ∷ before)).replies ≡ (step_of f e before).replies }
-    ensures fresh { (f sessions : ℕ) (e : Entry) (before : History) → Begun f sessions (e ∷ before) → (view_of f (e ∷ before)).fresh ≡ (step_of f e before).fresh }
+    ensures view { (f sessions : ℕ) (e : Entry) (before : History) → Begun f sessions (e ∷ before) → view_of f (e ∷ before) ≡ view_step (view_of f before) (length before) (asks before) e.event }
+    ensures stored { (f sessions : ℕ) (entries : List Entry) (e : Entry) → Begun f sessions (history_of (entries ++ e ∷ []))
+        → view_of f (history_of (entries ++ e ∷ [])) ≡ view_step (view_of f (history_of entries)) (length entries) (asks (history_of entries)) e.event }
+{}
+
+/// A history is faithful exactly where it is made of turns: each an allowed call, and then what is due, again and again,
+/// until nothing is.
+pub fn turns()
+    ensures { (f sessions : ℕ) (h : History) → Faithful f sessions h ↔ IsMadeOfTurns f sessions h }
+{}
+
+/// A Blocked reply passes the test of evidence exactly where it is one that a rigorous journal may have: it names some
+/// others that run, in ascending order, and no chain of waits leads from one of them to the asker.
+pub fn blocked_replies()
+    ensures { (v : View) (r asker : ℕ) (named : List ℕ) → IsTrue (is_sound_blocked (runs_in v r) (wait_in v r) (length (replica_in v r).attempts) asker named) ↔ IsSoundBlocked (runs_in v r) (wait_in v r) asker named }
 {}

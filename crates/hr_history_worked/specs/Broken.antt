@@ -1,6 +1,6 @@
 -- Histories that break a rule at their last entry, most of them beginnings of worked ones with another entry in place of
 -- the right one.
-use Rattle.std.specs.Prelude.{ℕ, List, [], ◌∷◌, ◌++◌, take as first}
+use Rattle.std.specs.Prelude.{List, [], ◌∷◌, ◌++◌, take as first}
 use Rattle.hr_rel.specs.declared.answer.Answer.TheVariants.{Count}
 use Rattle.hr_rel.specs.Worked.{insert}
 use Rattle.hr_history.specs.declared.entry.Entry.{Entry}

@@ -1,5 +1,5 @@
 -- Words for the entries of the worked histories: those of three replicas, whose sessions are the callers from 4 on.
-use Rattle.std.specs.Prelude.{ℕ, ◌+◌, pos, Some, None, List, [], ◌∷◌}
+use Rattle.std.specs.Prelude.{ℕ, ◌+◌, pos, Some, List, [], ◌∷◌}
 use Rattle.hr_rel.specs.declared.value.Value.TheVariants as value
 use Rattle.hr_rel.specs.declared.expr.Op.TheVariants as op
 use Rattle.hr_rel.specs.declared.expr.Operand.TheVariants as operand

@@ -8,6 +8,8 @@ pub mod LossAfterCommit
 pub mod WrongRestartCount
 pub mod SuspectedPrimary
 pub mod BlockingLiar
+pub mod DroppedWrite
+pub mod LossBeforeCommit
 pub mod WaitWithoutBreak
 pub mod BarrierCalls
 pub mod Broken

@@ -1,5 +1,5 @@
 -- The states of `stale_vote` after each of its turns.
-use Rattle.std.specs.Prelude.{ℕ, Option, Some, None, List, [], ◌∷◌}
+use Rattle.std.specs.Prelude.{ℕ, Some, None, List, [], ◌∷◌}
 use Rattle.hr_rel.specs.declared.answer.Answer.TheVariants.{Rows, Count}
 use Rattle.hr_rel.specs.Worked.{one}
 use Rattle.hr_history.specs.declared.job.Job.{Job}

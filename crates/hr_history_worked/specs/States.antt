@@ -1,6 +1,5 @@
 -- What a history says after each turn.
-use Rattle.std.specs.Prelude.{ℕ, Bool, true, false, if◌then◌else◌, Option, List, [], ◌∷◌, ◌++◌, map}
-use Rattle.hr_history.specs.declared.entry.Entry.{Entry}
+use Rattle.std.specs.Prelude.{ℕ, Bool, true, if◌then◌else◌, Option, List, [], ◌∷◌, ◌++◌, map}
 use Rattle.hr_history.specs.declared.job.Job.{Job}
 use Rattle.hr_history.specs.History.{History, is_call}
 use Rattle.hr_history.specs.Lists.{one_to, replica_numbers}

@@ -1,6 +1,5 @@
 -- Views at each moment of a history: by the words of the history, and by steps from the view of the empty one.
 use Rattle.std.specs.Prelude.{ℕ, List, [], ◌∷◌, length, map}
-use Rattle.hr_history.specs.declared.entry.Entry.{Entry}
 use Rattle.hr_history.specs.History.{History}
 use Rattle.hr_history.specs.Transactions.{asks}
 use Rattle.hr_history.specs.View.{View, view_of}

@@ -13,6 +13,8 @@ ghost use Rattle.hr_history_worked.specs.SuspectedPrimary.{suspected_primary};
 ghost use Rattle.hr_history_worked.specs.BlockingLiar.{blocking_liar};
 ghost use Rattle.hr_history_worked.specs.WaitWithoutBreak.{wait_without_break};
 ghost use Rattle.hr_history_worked.specs.BarrierCalls.{barrier_calls};
+ghost use Rattle.hr_history_worked.specs.DroppedWrite.{dropped_write};
+ghost use Rattle.hr_history_worked.specs.LossBeforeCommit.{loss_before_commit};
 
 /// A session inserts a row and reads it back.
 pub fn insert_and_select()
@@ -67,4 +69,14 @@ pub fn wait_without_break()
 /// A statement answered after a commit waits at a replica that hasn't processed that commit.
 pub fn barrier_calls()
     ensures faithful { is_faithful 1 2 (history_of barrier_calls) ≡ true }
+{}
+
+/// A secondary drops a write, and is convicted when it would have to commit an answer that wasn't accepted.
+pub fn dropped_write()
+    ensures faithful { is_faithful 1 1 (history_of dropped_write) ≡ true }
+{}
+
+/// A replica is lost in its commit, which it hadn't made, and runs the transaction again.
+pub fn loss_before_commit()
+    ensures faithful { is_faithful 1 1 (history_of loss_before_commit) ≡ true }
 {}

@@ -42,13 +42,16 @@ seen_last true replies still = told_last (last_of replies) still
 seen_last false replies still = still
 
 abbrev pub seen_attempt : List RunReply → Option Fresh → ℕ → ℕ × Attempt → ℕ × view.Attempt
-seen_attempt replies fresh r p = (p.0, record {
-  answers = map (λ (a : Told). answer_at replies a.reply) p.1.answers.items;
-  places = map (λ (a : Told). a.at) p.1.answers.items;
-  last = seen_last (view.is_fresh fresh r p.0) replies p.1.last;
-  touched = p.1.touched;
-  preempted = p.1.preempted;
-})
+seen_attempt replies fresh r p = (
+  p.0,
+  record {
+    answers = map (λ (a : Told). answer_at replies a.reply) p.1.answers.items;
+    places = map (λ (a : Told). a.at) p.1.answers.items;
+    last = seen_last (view.is_fresh fresh r p.0) replies p.1.last;
+    touched = p.1.touched;
+    preempted = p.1.preempted;
+  },
+)
 
 abbrev pub seen_replica : List RunReply → Option Fresh → ℕ → Progress → view.Progress
 seen_replica replies fresh r p = record {
