@@ -65,21 +65,21 @@ rule_between : (n : ℕ) (o : OperandAst) (negated : Bool) → Rule (between o n
 unfolding between same_mark
 rule_between n o negated =
     rule_seq (Fits 3 n) (rule_operand n)
-        (λ low. rule_seq (Fits 3 n) (rule_expect {c = never} {P = Fits 3 n} m.And)
-            (λ _. rule_map (λ high. cond_of.Between o low high negated) (rule_operand n))
-            (λ i j h. (omega (arith, h), omega (arith, h))) (λ a v b t l st. never_stops (v ++ t)))
-        (λ i j h. (omega (arith, h), omega (arith, h)))
-        (λ low v b t l st. firm_seq dots (IsMark m.And) (λ _. Map (λ high. cond_of.Between o low high negated) IsOperand) (firm_mark dots m.And (λ p. refl)) v b t l)
+    (λ low. rule_seq (Fits 3 n) (rule_expect {c = never} {P = Fits 3 n} m.And)
+    (λ _. rule_map (λ high. cond_of.Between o low high negated) (rule_operand n))
+    (λ i j h. (omega (arith, h), omega (arith, h))) (λ a v b t l st. never_stops (v ++ t)))
+    (λ i j h. (omega (arith, h), omega (arith, h)))
+    (λ low v b t l st. firm_seq dots (IsMark m.And) (λ _. Map (λ high. cond_of.Between o low high negated) IsOperand) (firm_mark dots m.And (λ p. refl)) v b t l)
 
 rule_among : (n : ℕ) (o : OperandAst) (negated : Bool) → Rule (among n o negated) (Among o negated) dots (Fits 3 n)
 unfolding among same_mark
 rule_among n o negated =
     rule_seq (Fits 3 n) (rule_expect {c = never} {P = Fits 3 n} m.LeftParen)
-        (λ _. rule_seq (Fits 3 n) (rule_listed commas 3 n (lit< tt) (rule_literal n) (λ t st. never_stops t) (stops_here m.Comma []) (λ p. refl))
-            (λ list. rule_map (λ _. cond_of.Among o list negated) (rule_expect {c = dots} {P = Fits 3 n} m.RightParen))
-            (λ i j h. (omega (arith, h), omega (arith, h)))
-            (λ list v b t l st. firm_map commas (λ _. cond_of.Among o list negated) (IsMark m.RightParen) (firm_mark commas m.RightParen (λ p. refl)) v b t l))
-        (λ i j h. (omega (arith, h), omega (arith, h))) (λ a v b t l st. never_stops (v ++ t))
+    (λ _. rule_seq (Fits 3 n) (rule_listed commas 3 n (lit< tt) (rule_literal n) (λ t st. never_stops t) (stops_here m.Comma []) (λ p. refl))
+    (λ list. rule_map (λ _. cond_of.Among o list negated) (rule_expect {c = dots} {P = Fits 3 n} m.RightParen))
+    (λ i j h. (omega (arith, h), omega (arith, h)))
+    (λ list v b t l st. firm_map commas (λ _. cond_of.Among o list negated) (IsMark m.RightParen) (firm_mark commas m.RightParen (λ p. refl)) v b t l))
+    (λ i j h. (omega (arith, h), omega (arith, h))) (λ a v b t l st. never_stops (v ++ t))
 
 null_positive : (o : OperandAst) (u : List Lexeme) (a : CondAst) (t : List Lexeme) → Map (λ _. cond_of.IsNull o false) (IsMark m.Null) u a → sees m.Not (u ++ t) ≡ false
 unfolding same_mark
@@ -89,7 +89,7 @@ rule_nullity : (n : ℕ) (o : OperandAst) → Rule (nullity o) (Nullity o) dots 
 unfolding nullity
 rule_nullity n o =
     rule_ahead (λ _. rule_map (λ _. cond_of.IsNull o true) (rule_expect {c = dots} {P = Fits 3 n} m.Null))
-        (rule_map (λ _. cond_of.IsNull o false) (rule_expect {c = dots} {P = Fits 3 n} m.Null)) (λ i h. omega (arith, h)) (λ u a t l st. null_positive o u a t l)
+    (rule_map (λ _. cond_of.IsNull o false) (rule_expect {c = dots} {P = Fits 3 n} m.Null)) (λ i h. omega (arith, h)) (λ u a t l st. null_positive o u a t l)
 
 in_unseen : (o : OperandAst) (negated : Bool) (u : List Lexeme) (a : CondAst) (t : List Lexeme) → Only m.In (λ _. Among o negated) u a → sees m.Between (u ++ t) ≡ false
 unfolding same_mark
@@ -98,7 +98,7 @@ in_unseen o negated u a t (Only.only p l) = refl
 rule_range_of : (n : ℕ) (o : OperandAst) (negated : Bool) → Rule (range_or_list_of n o negated) (RangeOf o negated) dots (Fits 3 n)
 rule_range_of n o negated =
     rule_ahead (λ _. rule_between n o negated) (rule_only (Fits 3 n) (λ _. rule_among n o negated) (λ i h. omega (arith, h)))
-        (λ i h. omega (arith, h)) (λ u a t l st. in_unseen o negated u a t l)
+    (λ i h. omega (arith, h)) (λ u a t l st. in_unseen o negated u a t l)
 
 range_positive : (o : OperandAst) (u : List Lexeme) (a : CondAst) (t : List Lexeme) → RangeOf o false u a → sees m.Not (u ++ t) ≡ false
 unfolding same_mark
@@ -125,8 +125,8 @@ rule_check : (n : ℕ) (o : OperandAst) → Rule (check n o) (IsCheck o) dots (F
 unfolding check
 rule_check n o = rule_iso (to_check o) (of_check o)
     (rule_at_compare (λ op. rule_map (cond_of.Compare op o) (rule_operand n))
-        (rule_ahead (λ _. rule_nullity n o) (rule_range n o) (λ i h. omega (arith, h)) (λ u a t l st. range_no_is o u a t l))
-        (λ i h. omega (arith, h)) (λ u a t l st. uncompared_words o u a t l))
+    (rule_ahead (λ _. rule_nullity n o) (rule_range n o) (λ i h. omega (arith, h)) (λ u a t l st. range_no_is o u a t l))
+    (λ i h. omega (arith, h)) (λ u a t l st. uncompared_words o u a t l))
 
 check_firm : (o : OperandAst) (u : List Lexeme) (a : CondAst) (t : List Lexeme) → IsCheck o u a → Stops dots (u ++ t)
 unfolding same_mark
@@ -243,12 +243,12 @@ rule_negs : (n : ℕ) → Rule (neg n) IsNeg dots (Fits 4 n) → Rule (cond n) I
 unfolding neg same_mark
 rule_negs n inner whole = rule_iso to_neg of_neg
     (rule_ahead (λ _. rule_map cond_of.Not inner)
-        (rule_ahead (λ _. rule_seq (Fits 7 n) whole (λ c. rule_map (λ _. c) (rule_expect {c = dots} {P = Fits 7 n} m.RightParen))
-                (λ i j h. (omega (arith, h), omega (arith, h)))
-                (λ c v b t l st. firm_map ors (λ _. c) (IsMark m.RightParen) (firm_mark ors m.RightParen (λ p. refl)) v b t l))
-            (rule_weak dots (Fits 4 (suc n)) (λ t st. st) (λ i h. omega (arith, h)) (rule_the_test n))
-            (λ i h. omega (arith, h)) (λ u a t l st. test_unseen m.LeftParen refl refl u a t l))
-        (λ i h. omega (arith, h)) (λ u a t l st. positive_unseen u a t l))
+    (rule_ahead (λ _. rule_seq (Fits 7 n) whole (λ c. rule_map (λ _. c) (rule_expect {c = dots} {P = Fits 7 n} m.RightParen))
+    (λ i j h. (omega (arith, h), omega (arith, h)))
+    (λ c v b t l st. firm_map ors (λ _. c) (IsMark m.RightParen) (firm_mark ors m.RightParen (λ p. refl)) v b t l))
+    (rule_weak dots (Fits 4 (suc n)) (λ t st. st) (λ i h. omega (arith, h)) (rule_the_test n))
+    (λ i h. omega (arith, h)) (λ u a t l st. test_unseen m.LeftParen refl refl u a t l))
+    (λ i h. omega (arith, h)) (λ u a t l st. positive_unseen u a t l))
 
 rule_conjs : (n : ℕ) → Rule (neg n) IsNeg dots (Fits 4 n) → ((left : CondAst) → Rule (conj_behind n left) (AndMore left) ands (Fits 1 n)) → Rule (conj (suc n)) IsConj ands (Fits 5 (suc n))
 unfolding neg
@@ -260,7 +260,7 @@ rule_ands : (n : ℕ) → Rule (neg n) IsNeg dots (Fits 4 n) → ((left : CondAs
 unfolding neg
 rule_ands n first behind left = rule_iso (to_and left) (of_and left)
     (rule_ahead (λ _. rule_seq (Fits 4 n) first (λ right. behind (cond_of.And left right)) (λ i j h. (omega (arith, h), omega (arith, h))) (λ right v b t l st. and_stops (cond_of.And left right) v b t l st))
-        (rule_pure left) (λ i h. omega (arith, h)) (done_unseen m.And ands left (stops_here m.And (m.Dot ∷ []))))
+    (rule_pure left) (λ i h. omega (arith, h)) (done_unseen m.And ands left (stops_here m.And (m.Dot ∷ []))))
 
 rule_conds : (n : ℕ) → Rule (conj n) IsConj ands (Fits 5 n) → ((left : CondAst) → Rule (cond_behind n left) (OrMore left) ors (Fits 2 n)) → Rule (cond (suc n)) IsCond ors (Fits 6 (suc n))
 unfolding neg
@@ -272,7 +272,7 @@ rule_ors : (n : ℕ) → Rule (conj n) IsConj ands (Fits 5 n) → ((left : CondA
 unfolding neg
 rule_ors n first behind left = rule_iso (to_or left) (of_or left)
     (rule_ahead (λ _. rule_seq (Fits 5 n) first (λ right. behind (cond_of.Or left right)) (λ i j h. (omega (arith, h), omega (arith, h))) (λ right v b t l st. or_stops (cond_of.Or left right) v b t l st))
-        (rule_pure left) (λ i h. omega (arith, h)) (done_unseen m.Or ors left (stops_here m.Or (m.And ∷ m.Dot ∷ []))))
+    (rule_pure left) (λ i h. omega (arith, h)) (done_unseen m.Or ors left (stops_here m.Or (m.And ∷ m.Dot ∷ []))))
 
 -- how deep rules may nest
 pub record Depth (n : ℕ) : Type 0 where

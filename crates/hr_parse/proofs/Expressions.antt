@@ -112,10 +112,10 @@ rule_factors : (n : ℕ) → Rule (expr n) IsExpr pluses (Fits 6 n) → Rule (fa
 unfolding factor same_mark
 rule_factors n whole = rule_iso to_factor of_factor
     (rule_ahead (λ at. rule_seq (Fits 7 n) whole (λ inner. rule_map (λ _. placed inner at) (rule_expect {c = dots} {P = Fits 7 n} m.RightParen))
-            (λ i j h. (omega (arith, h), omega (arith, h)))
-            (λ inner v b t l st. firm_map pluses (λ _. placed inner at) (IsMark m.RightParen) (firm_mark pluses m.RightParen (λ p. refl)) v b t l))
-        (rule_weak dots (Fits 4 (suc n)) (λ t st. st) (λ i h. omega (arith, h)) (rule_map simple (rule_operand n)))
-        (λ i h. omega (arith, h)) (λ u a t l st. simple_unseen m.LeftParen refl refl u a t l))
+    (λ i j h. (omega (arith, h), omega (arith, h)))
+    (λ inner v b t l st. firm_map pluses (λ _. placed inner at) (IsMark m.RightParen) (firm_mark pluses m.RightParen (λ p. refl)) v b t l))
+    (rule_weak dots (Fits 4 (suc n)) (λ t st. st) (λ i h. omega (arith, h)) (rule_map simple (rule_operand n)))
+    (λ i h. omega (arith, h)) (λ u a t l st. simple_unseen m.LeftParen refl refl u a t l))
 
 rule_terms : (n : ℕ) → Rule (factor n) IsFactor dots (Fits 4 n) → ((left : ExprAst) → Rule (term_behind n left) (TimesMore left) stars (Fits 1 n)) → Rule (term (suc n)) IsTerm stars (Fits 5 (suc n))
 unfolding factor
@@ -127,7 +127,7 @@ rule_times : (n : ℕ) → Rule (factor n) IsFactor dots (Fits 4 n) → ((left :
 unfolding factor
 rule_times n first behind left = rule_iso (to_times left) (of_times left)
     (rule_ahead (λ _. rule_seq (Fits 4 n) first (λ right. behind (product left right)) (λ i j h. (omega (arith, h), omega (arith, h))) (λ right v b t l st. times_stops (product left right) v b t l st))
-        (rule_pure left) (λ i h. omega (arith, h)) (done_unseen m.Star stars left (stops_here m.Star (m.Dot ∷ []))))
+    (rule_pure left) (λ i h. omega (arith, h)) (done_unseen m.Star stars left (stops_here m.Star (m.Dot ∷ []))))
 
 rule_exprs : (n : ℕ) → Rule (term n) IsTerm stars (Fits 5 n) → ((left : ExprAst) → Rule (expr_behind n left) (PlusMore left) pluses (Fits 2 n)) → Rule (expr (suc n)) IsExpr pluses (Fits 6 (suc n))
 unfolding factor
@@ -139,10 +139,10 @@ rule_pluses : (n : ℕ) → Rule (term n) IsTerm stars (Fits 5 n) → ((left : E
 unfolding factor
 rule_pluses n first behind left = rule_iso (to_plus left) (of_plus left)
     (rule_ahead (λ _. rule_seq (Fits 5 n) first (λ right. behind (sum left right)) (λ i j h. (omega (arith, h), omega (arith, h))) (λ right v b t l st. plus_stops (sum left right) v b t l st))
-        (rule_ahead (λ _. rule_seq (Fits 5 n) first (λ right. behind (difference left right)) (λ i j h. (omega (arith, h), omega (arith, h))) (λ right v b t l st. plus_stops (difference left right) v b t l st))
-            (rule_pure left) (λ i h. omega (arith, h))
-            (done_unseen m.Minus pluses left (λ t st. stops_here m.Minus (m.Star ∷ m.Dot ∷ []) t (stops_rest m.Plus (m.Minus ∷ m.Star ∷ m.Dot ∷ []) t st))))
-        (λ i h. omega (arith, h)) (λ u a t l st. minus_unseen left u a t l st))
+    (rule_ahead (λ _. rule_seq (Fits 5 n) first (λ right. behind (difference left right)) (λ i j h. (omega (arith, h), omega (arith, h))) (λ right v b t l st. plus_stops (difference left right) v b t l st))
+    (rule_pure left) (λ i h. omega (arith, h))
+    (done_unseen m.Minus pluses left (λ t st. stops_here m.Minus (m.Star ∷ m.Dot ∷ []) t (stops_rest m.Plus (m.Minus ∷ m.Star ∷ m.Dot ∷ []) t st))))
+    (λ i h. omega (arith, h)) (λ u a t l st. minus_unseen left u a t l st))
 
 record Depth (n : ℕ) : Type 0 where
   pub factors : Rule (factor n) IsFactor dots (Fits 4 n)

@@ -6,3 +6,5 @@ pub mod Conditions
 pub mod Expressions
 pub mod Statements
 pub mod Whole
+pub mod Names
+pub mod Told

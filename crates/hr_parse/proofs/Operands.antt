@@ -51,7 +51,9 @@ module _ {A : Type 0} (test : Lexeme → Option A) (y : Lexeme) (b : A) (example
   test_got x s t a (Some d) h e =
       let k = ok_parts d a s t (rw (h, by_test) at e) in
       record {
-        front = x ∷ []; split = ap (λ z. x ∷ z) k.1; gives = Tested.tested x a (h ∙ ap Some k.0);
+        front = x ∷ [];
+        split = ap (λ z. x ∷ z) k.1;
+        gives = Tested.tested x a (h ∙ ap Some k.0);
         same = λ o v w q. rw (h ∙ ap Some k.0, by_test) refl;
       }
 
@@ -65,7 +67,11 @@ module _ {A : Type 0} (test : Lexeme → Option A) (y : Lexeme) (b : A) (example
       let z = rw (h, by_test) at e in
       let q : (x ∷ s) ≡ t = cc in
       record {
-        front = []; split = q; more = y ∷ []; tree = b; gives = Tested.tested y b example;
+        front = [];
+        split = q;
+        more = y ∷ [];
+        tree = b;
+        gives = Tested.tested y b example;
         same = λ o v r d. let first : x ≡ o = cc in let again : by_test test (x ∷ r) ≡ Err (x ∷ r) = rw (h, by_test) refl in subst (λ z. by_test test (z ∷ r) ≡ Err (z ∷ r)) first again;
       }
 
@@ -164,7 +170,7 @@ pub rule_optional : {A : Type 0} {f : Reader A} {L : List Lexeme → A → Type 
     → Rule (optional k f) (Optional k L) d P
 rule_optional {L = L} {Q = Q} k d P r shorter weak unseen =
     rule_iso (to_optional k L) (of_optional k L)
-        (rule_ahead (λ _. rule_weak d Q weak (λ i q. q) (rule_map Some r)) (rule_pure None) shorter (done_unseen k d None unseen))
+    (rule_ahead (λ _. rule_weak d Q weak (λ i q. q) (rule_map Some r)) (rule_pure None) shorter (done_unseen k d None unseen))
 
 -- ---- columns
 
@@ -184,10 +190,10 @@ pub rule_column : (n : ℕ) → Rule column IsColumn (any (m.Dot ∷ [])) (Fits 
 unfolding column
 rule_column n = rule_iso to_column of_column
     (rule_seq (Fits 3 n) (rule_name {c = never} {P = Fits 3 n})
-        (λ first. rule_map (λ second. record { first = first; second = second })
-            (rule_optional m.Dot dots (Fits 3 n) (rule_name {c = never} {P = Fits 3 n}) (λ i h. omega (arith, h)) (λ t st. never_stops t) (stops_here m.Dot [])))
-        (λ i j h. (omega (arith, h), omega (arith, h)))
-        (λ a v b t l st. never_stops (v ++ t)))
+    (λ first. rule_map (λ second. record { first = first; second = second })
+    (rule_optional m.Dot dots (Fits 3 n) (rule_name {c = never} {P = Fits 3 n}) (λ i h. omega (arith, h)) (λ t st. never_stops t) (stops_here m.Dot [])))
+    (λ i j h. (omega (arith, h), omega (arith, h)))
+    (λ a v b t l st. never_stops (v ++ t)))
 
 -- ---- literals
 
@@ -288,9 +294,9 @@ pub rule_literal : (n : ℕ) → Rule literal IsLiteral never (Fits 3 n)
 unfolding literal
 rule_literal n = rule_iso to_literal of_literal
     (rule_ahead (λ p. rule_negative p n)
-        (rule_ahead (λ p. rule_pure {c = never} {P = Fits 3 n} (record { value = lit.Null; at = p })) (rule_constant n) (λ i h. omega (arith, h))
-            (λ u a t l st. constant_unseen m.Null u a t l))
-        (λ i h. omega (arith, h)) (λ u a t l st. null_unsigned u a t l))
+    (rule_ahead (λ p. rule_pure {c = never} {P = Fits 3 n} (record { value = lit.Null; at = p })) (rule_constant n) (λ i h. omega (arith, h))
+    (λ u a t l st. constant_unseen m.Null u a t l))
+    (λ i h. omega (arith, h)) (λ u a t l st. null_unsigned u a t l))
 
 -- ---- operands
 
@@ -318,8 +324,8 @@ pub rule_operand : (n : ℕ) → Rule operand_at IsOperand (any (m.Dot ∷ [])) 
 unfolding operand_at
 rule_operand n = rule_iso to_operand of_operand
     (rule_at_name (rule_map operand_of.Column (rule_column n))
-        (rule_weak dots (Fits 3 n) (λ t st. never_stops t) (λ i h. h) (rule_map operand_of.Literal (rule_literal n)))
-        column_named (λ u a t l st. literal_unnamed u a t l))
+    (rule_weak dots (Fits 3 n) (λ t st. never_stops t) (λ i h. h) (rule_map operand_of.Literal (rule_literal n)))
+    column_named (λ u a t l st. literal_unnamed u a t l))
 
 -- ---- lists
 
@@ -366,10 +372,10 @@ module _ {A : Type 0} (f : Reader A) (L : List Lexeme → A → Type 0) (c d : L
   listed_all zero front = rule_refuse r.words (front ++ r.tree ∷ []) (Behind.behind (Listed.one r.some)) (λ i h. omega (arith, h.1))
   listed_all (suc most) front = rule_iso (to_behind L front) (of_behind L front)
       (rule_seq (Turns k n (suc most)) r
-          (λ a. rule_ahead {P = Turns k n (suc most)} (λ _. listed_all most (front ++ a ∷ [])) (rule_pure (front ++ a ∷ [])) (λ i h. (omega (arith, h.0), omega (arith, h.1)))
-              (done_unseen m.Comma d (front ++ a ∷ []) unseen))
-          (λ i j h. (omega (arith, h.0), (omega (arith, h.0), omega (arith, h.1))))
-          (λ a v b t l st. goes_on (front ++ a ∷ []) v b t l st))
+      (λ a. rule_ahead {P = Turns k n (suc most)} (λ _. listed_all most (front ++ a ∷ [])) (rule_pure (front ++ a ∷ [])) (λ i h. (omega (arith, h.0), omega (arith, h.1)))
+      (done_unseen m.Comma d (front ++ a ∷ []) unseen))
+      (λ i j h. (omega (arith, h.0), (omega (arith, h.0), omega (arith, h.1))))
+      (λ a v b t l st. goes_on (front ++ a ∷ []) v b t l st))
 
 to_listed : {A : Type 0} (L : List Lexeme → A → Type 0) (u : List Lexeme) (all : List A) → Behind L [] u all → Listed L u all
 to_listed L u all (Behind.behind ls) = ls

@@ -156,28 +156,29 @@ module _ {A B : Type 0} (f : Reader A) (g : A → Reader B) (L : List Lexeme →
 
   seq_stuck : Rule f L c P → ((a : A) → Rule (g a) (M a) d Q) → (s t : List Lexeme) → (f >>= g) s ≡ Err t → Stuck (f >>= g) (Seq L M) s t
   seq_stuck first second s t e = elim (bind_err (f s) g t e) [
-      inl h ↦ stuck_first first second s t h
-    | inr k ↦ stuck_second first second s t k.0.0 k.0.1 k.1 k.2 ]
+    | inl h ↦ stuck_first first second s t h
+    | inr k ↦ stuck_second first second s t k.0.0 k.0.1 k.1 k.2
+  ]
 
   seq_later : (u m : List Lexeme) (a : A) (b : B) (t : List Lexeme) → f (u ++ m) ≡ Ok (a, m) → ((i j : ℕ) → R (i + j) → P i × Q j) → Whole (g a) Q m b t → Whole (f >>= g) R (u ++ m) b t
   seq_later u m a b t e parts (inl k) = inl (rw e k)
   seq_later u m a b t e parts (inr k) = inr (record {
-      front = u ++ k.front;
-      rest = k.rest;
-      split = ap (λ z. u ++ z) k.split ∙ sym (append_assoc u k.front k.rest);
-      stops = rw e k.stops;
-      late = λ r. k.late (parts (length u) (length k.front) (subst R (length-append u k.front) r)).1;
-    })
+    front = u ++ k.front;
+    rest = k.rest;
+    split = ap (λ z. u ++ z) k.split ∙ sym (append_assoc u k.front k.rest);
+    stops = rw e k.stops;
+    late = λ r. k.late (parts (length u) (length k.front) (subst R (length-append u k.front) r)).1;
+  })
 
   seq_read : (u m : List Lexeme) (a : A) (b : B) (t : List Lexeme) → ((i j : ℕ) → R (i + j) → P i × Q j) → Whole f P (u ++ m) a m → Whole (g a) Q m b t → Whole (f >>= g) R (u ++ m) b t
   seq_read u m a b t parts (inl e) second = seq_later u m a b t e parts second
   seq_read u m a b t parts (inr k) second = inr (record {
-      front = k.front;
-      rest = k.rest;
-      split = k.split;
-      stops = rw k.stops refl;
-      late = λ r. let same : length k.front ≡ length k.front + 0 = omega arith in k.late (parts (length k.front) 0 (subst R same r)).0;
-    })
+    front = k.front;
+    rest = k.rest;
+    split = k.split;
+    stops = rw k.stops refl;
+    late = λ r. let same : length k.front ≡ length k.front + 0 = omega arith in k.late (parts (length k.front) 0 (subst R same r)).0;
+  })
 
   seq_whole : Rule f L c P → ((a : A) → Rule (g a) (M a) d Q) → ((i j : ℕ) → R (i + j) → P i × Q j)
       → ((a : A) (v : List Lexeme) (b : B) (t : List Lexeme) → M a v b → Stops d t → Stops c (v ++ t))
@@ -223,15 +224,17 @@ rule_map {f = f} {L = L} h r = record {
   tree = h r.tree;
   some = Map.map r.some;
   got = λ s t b e.
-    let k = map_ok h (f s) (b, t) e in
-    let one : Got f L s k.0.0 t = r.got s t k.0.0 (k.1 ∙ ap (λ z. Ok (k.0.0, z)) k.3) in
-    record {
-      front = one.front; split = one.split; gives = subst (λ z. Map h L one.front z) k.2 (Map.map one.gives);
-      same = λ x v w d. rw (one.same x v w d) (ap (λ z. Ok (z, x ∷ w)) k.2);
-    };
+      let k = map_ok h (f s) (b, t) e in
+      let one : Got f L s k.0.0 t = r.got s t k.0.0 (k.1 ∙ ap (λ z. Ok (k.0.0, z)) k.3) in
+      record {
+        front = one.front;
+        split = one.split;
+        gives = subst (λ z. Map h L one.front z) k.2 (Map.map one.gives);
+        same = λ x v w d. rw (one.same x v w d) (ap (λ z. Ok (z, x ∷ w)) k.2);
+      };
   stuck = λ s t e.
-    let one : Stuck f L s t = r.stuck s t (map_err h (f s) t e) in
-    record { front = one.front; split = one.split; more = one.more; tree = h one.tree; gives = Map.map one.gives; same = λ x v w d. rw (one.same x v w d) refl };
+      let one : Stuck f L s t = r.stuck s t (map_err h (f s) t e) in
+      record { front = one.front; split = one.split; more = one.more; tree = h one.tree; gives = Map.map one.gives; same = λ x v w d. rw (one.same x v w d) refl };
   whole = map_whole h r;
 }
 
@@ -279,7 +282,11 @@ expect_refused m x s t false h e =
     let z = rw h at e in
     let q : (x ∷ s) ≡ t = cc in
     record {
-      front = []; split = q; more = mark m 0 ∷ []; tree = tt; gives = IsMark.the 0;
+      front = [];
+      split = q;
+      more = mark m 0 ∷ [];
+      tree = tt;
+      gives = IsMark.the 0;
       same = λ o v w d. let first : x ≡ o = cc in rw (← first) (rw h refl);
     }
 
@@ -334,14 +341,17 @@ module _ {A : Type 0} (m : Mark) (f : ℕ → Reader A) (g : Reader A) (L : ℕ 
   ahead_got s t a false h e =
       let one : Got g M s a t = there.got s t a (rw h at e) in
       record {
-        front = one.front; split = one.split; gives = Ahead.other one.gives;
+        front = one.front;
+        split = one.split;
+        gives = Ahead.other one.gives;
         same = λ x v w d. rw (same_first (sees m) (sees_alike m) one.front s t v w x one.split d ∙ h) (one.same x v w d);
       }
   ahead_got [] t a true h e = absurd (cc)
   ahead_got (y ∷ s) t a true h e =
       let one : Got (f y.at) (L y.at) s a t = (here y.at).got s t a (rw h at e) in
       record {
-        front = y ∷ one.front; split = ap (λ z. y ∷ z) one.split;
+        front = y ∷ one.front;
+        split = ap (λ z. y ∷ z) one.split;
         gives = subst (λ z. Ahead m L M (z ∷ one.front) a) (sym (is_the_mark m y h)) (Ahead.this y.at one.gives);
         same = λ x v w d. rw h (one.same x v w d);
       }
@@ -350,14 +360,21 @@ module _ {A : Type 0} (m : Mark) (f : ℕ → Reader A) (g : Reader A) (L : ℕ 
   ahead_stuck s t false h e =
       let one : Stuck g M s t = there.stuck s t (rw h at e) in
       record {
-        front = one.front; split = one.split; more = one.more; tree = one.tree; gives = Ahead.other one.gives;
+        front = one.front;
+        split = one.split;
+        more = one.more;
+        tree = one.tree;
+        gives = Ahead.other one.gives;
         same = λ x v w d. rw (same_first (sees m) (sees_alike m) one.front s t v w x one.split d ∙ h) (one.same x v w d);
       }
   ahead_stuck [] t true h e = absurd (cc)
   ahead_stuck (y ∷ s) t true h e =
       let one : Stuck (f y.at) (L y.at) s t = (here y.at).stuck s t (rw h at e) in
       record {
-        front = y ∷ one.front; split = ap (λ z. y ∷ z) one.split; more = one.more; tree = one.tree;
+        front = y ∷ one.front;
+        split = ap (λ z. y ∷ z) one.split;
+        more = one.more;
+        tree = one.tree;
         gives = subst (λ z. Ahead m L M (z ∷ (one.front ++ one.more)) one.tree) (sym (is_the_mark m y h)) (Ahead.this y.at one.gives);
         same = λ x v w d. rw h (one.same x v w d);
       }
@@ -365,7 +382,12 @@ module _ {A : Type 0} (m : Mark) (f : ℕ → Reader A) (g : Reader A) (L : ℕ 
   ahead_this : ((i : ℕ) → P (suc i) → Q i) → (p : ℕ) (s : List Lexeme) (a : A) (t : List Lexeme) → Whole (f p) Q s a t → Whole (ahead_at m f g) P (mark m p ∷ s) a t
   ahead_this shorter p s a t (inl e) = inl (rw (mark_self m) e)
   ahead_this shorter p s a t (inr k) = inr (record {
-      front = mark m p ∷ k.front; rest = k.rest; split = ap (λ z. mark m p ∷ z) k.split; stops = rw (mark_self m) k.stops; late = λ q. k.late (shorter (length k.front) q) })
+    front = mark m p ∷ k.front;
+    rest = k.rest;
+    split = ap (λ z. mark m p ∷ z) k.split;
+    stops = rw (mark_self m) k.stops;
+    late = λ q. k.late (shorter (length k.front) q);
+  })
 
   ahead_other : (s : List Lexeme) (a : A) (t : List Lexeme) → sees m s ≡ false → Whole g P s a t → Whole (ahead_at m f g) P s a t
   ahead_other s a t h (inl e) = inl (rw h e)
@@ -399,7 +421,8 @@ module _ {A : Type 0} (m : Mark) (f : ℕ → Reader A) (L : ℕ → List Lexeme
   only_got (y ∷ s) t a true h e =
       let one : Got (f y.at) (L y.at) s a t = (here y.at).got s t a (rw h at e) in
       record {
-        front = y ∷ one.front; split = ap (λ z. y ∷ z) one.split;
+        front = y ∷ one.front;
+        split = ap (λ z. y ∷ z) one.split;
         gives = subst (λ z. Only m L (z ∷ one.front) a) (sym (is_the_mark m y h)) (Only.only y.at one.gives);
         same = λ x v w d. rw h (one.same x v w d);
       }
@@ -409,14 +432,21 @@ module _ {A : Type 0} (m : Mark) (f : ℕ → Reader A) (L : ℕ → List Lexeme
       let z = rw h at e in
       let q : s ≡ t = cc in
       record {
-        front = []; split = q; more = mark m 0 ∷ (here 0).words; tree = (here 0).tree; gives = Only.only 0 (here 0).some;
+        front = [];
+        split = q;
+        more = mark m 0 ∷ (here 0).words;
+        tree = (here 0).tree;
+        gives = Only.only 0 (here 0).some;
         same = λ x v w d. rw (same_first (sees m) (sees_alike m) [] s t v w x q d ∙ h) refl;
       }
   only_stuck [] t true h e = absurd (cc)
   only_stuck (y ∷ s) t true h e =
       let one : Stuck (f y.at) (L y.at) s t = (here y.at).stuck s t (rw h at e) in
       record {
-        front = y ∷ one.front; split = ap (λ z. y ∷ z) one.split; more = one.more; tree = one.tree;
+        front = y ∷ one.front;
+        split = ap (λ z. y ∷ z) one.split;
+        more = one.more;
+        tree = one.tree;
         gives = subst (λ z. Only m L (z ∷ (one.front ++ one.more)) one.tree) (sym (is_the_mark m y h)) (Only.only y.at one.gives);
         same = λ x v w d. rw h (one.same x v w d);
       }
@@ -424,7 +454,12 @@ module _ {A : Type 0} (m : Mark) (f : ℕ → Reader A) (L : ℕ → List Lexeme
   only_this : ((i : ℕ) → P (suc i) → Q i) → (p : ℕ) (s : List Lexeme) (a : A) (t : List Lexeme) → Whole (f p) Q s a t → Whole (ahead_at m f refuse) P (mark m p ∷ s) a t
   only_this shorter p s a t (inl e) = inl (rw (mark_self m) e)
   only_this shorter p s a t (inr k) = inr (record {
-      front = mark m p ∷ k.front; rest = k.rest; split = ap (λ z. mark m p ∷ z) k.split; stops = rw (mark_self m) k.stops; late = λ q. k.late (shorter (length k.front) q) })
+    front = mark m p ∷ k.front;
+    rest = k.rest;
+    split = ap (λ z. mark m p ∷ z) k.split;
+    stops = rw (mark_self m) k.stops;
+    late = λ q. k.late (shorter (length k.front) q);
+  })
 
   only_whole : ((i : ℕ) → P (suc i) → Q i) → (w : List Lexeme) (a : A) → Only m L w a → (t : List Lexeme) → Stops c t → Whole (ahead_at m f refuse) P (w ++ t) a t
   only_whole shorter w a (Only.only p {u} l) t st = only_this shorter p (u ++ t) a t ((here p).whole u a l t st)
@@ -453,22 +488,42 @@ module _ {A : Type 0} (f g : Reader A) (L M : List Lexeme → A → Type 0) (c :
   name_got : (s t : List Lexeme) (a : A) (v : Bool) → sees_name s ≡ v → at_name f g s ≡ Ok (a, t) → Got (at_name f g) (Either L M) s a t
   name_got s t a true h e =
       let one : Got f L s a t = here.got s t a (rw h at e) in
-      record { front = one.front; split = one.split; gives = Either.left one.gives;
-        same = λ x v w d. rw (same_first sees_name name_alike one.front s t v w x one.split d ∙ h) (one.same x v w d) }
+      record {
+        front = one.front;
+        split = one.split;
+        gives = Either.left one.gives;
+        same = λ x v w d. rw (same_first sees_name name_alike one.front s t v w x one.split d ∙ h) (one.same x v w d);
+      }
   name_got s t a false h e =
       let one : Got g M s a t = there.got s t a (rw h at e) in
-      record { front = one.front; split = one.split; gives = Either.right one.gives;
-        same = λ x v w d. rw (same_first sees_name name_alike one.front s t v w x one.split d ∙ h) (one.same x v w d) }
+      record {
+        front = one.front;
+        split = one.split;
+        gives = Either.right one.gives;
+        same = λ x v w d. rw (same_first sees_name name_alike one.front s t v w x one.split d ∙ h) (one.same x v w d);
+      }
 
   name_stuck : (s t : List Lexeme) (v : Bool) → sees_name s ≡ v → at_name f g s ≡ Err t → Stuck (at_name f g) (Either L M) s t
   name_stuck s t true h e =
       let one : Stuck f L s t = here.stuck s t (rw h at e) in
-      record { front = one.front; split = one.split; more = one.more; tree = one.tree; gives = Either.left one.gives;
-        same = λ x v w d. rw (same_first sees_name name_alike one.front s t v w x one.split d ∙ h) (one.same x v w d) }
+      record {
+        front = one.front;
+        split = one.split;
+        more = one.more;
+        tree = one.tree;
+        gives = Either.left one.gives;
+        same = λ x v w d. rw (same_first sees_name name_alike one.front s t v w x one.split d ∙ h) (one.same x v w d);
+      }
   name_stuck s t false h e =
       let one : Stuck g M s t = there.stuck s t (rw h at e) in
-      record { front = one.front; split = one.split; more = one.more; tree = one.tree; gives = Either.right one.gives;
-        same = λ x v w d. rw (same_first sees_name name_alike one.front s t v w x one.split d ∙ h) (one.same x v w d) }
+      record {
+        front = one.front;
+        split = one.split;
+        more = one.more;
+        tree = one.tree;
+        gives = Either.right one.gives;
+        same = λ x v w d. rw (same_first sees_name name_alike one.front s t v w x one.split d ∙ h) (one.same x v w d);
+      }
 
   name_left : (s : List Lexeme) (a : A) (t : List Lexeme) → sees_name s ≡ true → Whole f P s a t → Whole (at_name f g) P s a t
   name_left s a t h (inl e) = inl (rw h e)
@@ -519,14 +574,17 @@ module _ {A : Type 0} (f : Op → Reader A) (g : Reader A) (L : Op → List Lexe
   compare_got s t a None h e =
       let one : Got g M s a t = there.got s t a (rw (h, at_compare) at e) in
       record {
-        front = one.front; split = one.split; gives = Compared.uncompared one.gives;
+        front = one.front;
+        split = one.split;
+        gives = Compared.uncompared one.gives;
         same = λ x v w d. rw (same_first sees_compare compare_alike one.front s t v w x one.split d ∙ h, at_compare) (one.same x v w d);
       }
   compare_got [] t a (Some o) h e = absurd (cc)
   compare_got (y ∷ s) t a (Some o) h e =
       let one : Got (f o) (L o) s a t = (here o).got s t a (rw (h, at_compare) at e) in
       record {
-        front = y ∷ one.front; split = ap (λ z. y ∷ z) one.split;
+        front = y ∷ one.front;
+        split = ap (λ z. y ∷ z) one.split;
         gives = subst (λ z. Compared L M (z ∷ one.front) a) (sym (is_the_compare o y h)) (Compared.compared o y.at one.gives);
         same = λ x v w d. rw (h, at_compare) (one.same x v w d);
       }
@@ -535,14 +593,21 @@ module _ {A : Type 0} (f : Op → Reader A) (g : Reader A) (L : Op → List Lexe
   compare_stuck s t None h e =
       let one : Stuck g M s t = there.stuck s t (rw (h, at_compare) at e) in
       record {
-        front = one.front; split = one.split; more = one.more; tree = one.tree; gives = Compared.uncompared one.gives;
+        front = one.front;
+        split = one.split;
+        more = one.more;
+        tree = one.tree;
+        gives = Compared.uncompared one.gives;
         same = λ x v w d. rw (same_first sees_compare compare_alike one.front s t v w x one.split d ∙ h, at_compare) (one.same x v w d);
       }
   compare_stuck [] t (Some o) h e = absurd (cc)
   compare_stuck (y ∷ s) t (Some o) h e =
       let one : Stuck (f o) (L o) s t = (here o).stuck s t (rw (h, at_compare) at e) in
       record {
-        front = y ∷ one.front; split = ap (λ z. y ∷ z) one.split; more = one.more; tree = one.tree;
+        front = y ∷ one.front;
+        split = ap (λ z. y ∷ z) one.split;
+        more = one.more;
+        tree = one.tree;
         gives = subst (λ z. Compared L M (z ∷ (one.front ++ one.more)) one.tree) (sym (is_the_compare o y h)) (Compared.compared o y.at one.gives);
         same = λ x v w d. rw (h, at_compare) (one.same x v w d);
       }
@@ -550,7 +615,12 @@ module _ {A : Type 0} (f : Op → Reader A) (g : Reader A) (L : Op → List Lexe
   compare_this : ((i : ℕ) → P (suc i) → Q i) → (o : Op) (p : ℕ) (s : List Lexeme) (a : A) (t : List Lexeme) → Whole (f o) Q s a t → Whole (at_compare f g) P (compare o p ∷ s) a t
   compare_this shorter o p s a t (inl e) = inl e
   compare_this shorter o p s a t (inr k) = inr (record {
-      front = compare o p ∷ k.front; rest = k.rest; split = ap (λ z. compare o p ∷ z) k.split; stops = k.stops; late = λ q. k.late (shorter (length k.front) q) })
+    front = compare o p ∷ k.front;
+    rest = k.rest;
+    split = ap (λ z. compare o p ∷ z) k.split;
+    stops = k.stops;
+    late = λ q. k.late (shorter (length k.front) q);
+  })
 
   compare_other : (s : List Lexeme) (a : A) (t : List Lexeme) → sees_compare s ≡ None → Whole g P s a t → Whole (at_compare f g) P s a t
   compare_other s a t h (inl e) = inl (rw (h, at_compare) e)

@@ -65,8 +65,8 @@ rule_aggregated : (n : ℕ) (word : AggWord) (at : ℕ) → Rule (aggregated wor
 unfolding aggregated same_mark
 rule_aggregated n word at =
     rule_seq (Fits 6 n) (rule_column n) (λ c. rule_map (λ _. item_of.Aggregate word c at) (rule_expect {c = pluses} {P = Fits 6 n} m.RightParen))
-        (λ i j h. (omega (arith, h), omega (arith, h)))
-        (λ c v b t l st. firm_map (any (m.Dot ∷ [])) (λ _. item_of.Aggregate word c at) (IsMark m.RightParen) (firm_mark (any (m.Dot ∷ [])) m.RightParen (λ p. refl)) v b t l)
+    (λ i j h. (omega (arith, h), omega (arith, h)))
+    (λ c v b t l st. firm_map (any (m.Dot ∷ [])) (λ _. item_of.Aggregate word c at) (IsMark m.RightParen) (firm_mark (any (m.Dot ∷ [])) m.RightParen (λ p. refl)) v b t l)
 
 abbrev Folded : AggWord → ℕ → List Lexeme → ItemAst → Type 0
 Folded word at = Seq (IsMark m.LeftParen) (λ _. Aggregated word at)
@@ -85,9 +85,9 @@ rule_counted : (n : ℕ) (at : ℕ) → Rule (counted at) (Counted at) pluses (F
 unfolding counted
 rule_counted n at =
     rule_seq (Fits 6 n) (rule_expect {c = never} {P = Fits 6 n} m.LeftParen)
-        (λ _. rule_ahead (λ _. rule_map (λ _. item_of.CountAll at) (rule_expect {c = pluses} {P = Fits 6 n} m.RightParen)) (rule_aggregated n word_of.Count at)
-            (λ i h. omega (arith, h)) (λ u a t l st. aggregated_unseen m.Star word_of.Count at u a t l))
-        (both 6 n) (λ a v b t l st. never_stops (v ++ t))
+    (λ _. rule_ahead (λ _. rule_map (λ _. item_of.CountAll at) (rule_expect {c = pluses} {P = Fits 6 n} m.RightParen)) (rule_aggregated n word_of.Count at)
+    (λ i h. omega (arith, h)) (λ u a t l st. aggregated_unseen m.Star word_of.Count at u a t l))
+    (both 6 n) (λ a v b t l st. never_stops (v ++ t))
 
 abbrev Item : List Lexeme → ItemAst → Type 0
 Item = Ahead m.Count Counted (Ahead m.Sum (Folded word_of.Sum) (Ahead m.Min (Folded word_of.Min) (Ahead m.Max (Folded word_of.Max) (Map item_of.Plain IsExpr))))
@@ -137,10 +137,10 @@ rule_item n = rule_iso to_item of_item
     (rule_ahead (λ p. rule_folded n word_of.Sum p)
     (rule_ahead (λ p. rule_folded n word_of.Min p)
     (rule_ahead (λ p. rule_folded n word_of.Max p) (rule_map item_of.Plain (rule_expr n))
-        (λ i h. omega (arith, h)) (λ u a t l st. plain_unseen m.Max refl refl refl u a t l))
-        (λ i h. omega (arith, h)) (λ u a t l st. no_min u a t l))
-        (λ i h. omega (arith, h)) (λ u a t l st. no_sum u a t l))
-        (λ i h. omega (arith, h)) (λ u a t l st. no_count u a t l))
+    (λ i h. omega (arith, h)) (λ u a t l st. plain_unseen m.Max refl refl refl u a t l))
+    (λ i h. omega (arith, h)) (λ u a t l st. no_min u a t l))
+    (λ i h. omega (arith, h)) (λ u a t l st. no_sum u a t l))
+    (λ i h. omega (arith, h)) (λ u a t l st. no_count u a t l))
 
 -- ---- the list of items
 
@@ -175,8 +175,8 @@ rule_items : (n : ℕ) → Rule (items n) AreItems parts (Fits 6 n)
 unfolding items same_mark
 rule_items n = rule_iso to_items of_items
     (rule_ahead (λ p. rule_pure {c = parts} {P = Fits 6 n} (items_of.Star p))
-        (rule_map items_of.Listed (rule_listed parts 6 n (lit< tt) (rule_item n) (stops_rest m.Comma (m.Plus ∷ m.Minus ∷ m.Star ∷ m.Dot ∷ [])) (stops_here m.Comma (m.Plus ∷ m.Minus ∷ m.Star ∷ m.Dot ∷ [])) (λ p. refl)))
-        (λ i h. omega (arith, h)) (λ u a t l st. items_unseen u a t l))
+    (rule_map items_of.Listed (rule_listed parts 6 n (lit< tt) (rule_item n) (stops_rest m.Comma (m.Plus ∷ m.Minus ∷ m.Star ∷ m.Dot ∷ [])) (stops_here m.Comma (m.Plus ∷ m.Minus ∷ m.Star ∷ m.Dot ∷ [])) (λ p. refl)))
+    (λ i h. omega (arith, h)) (λ u a t l st. items_unseen u a t l))
 
 -- ---- entries
 
@@ -222,8 +222,8 @@ rule_alias : (n : ℕ) → Rule alias IsAlias aliases (Fits 6 n)
 unfolding alias
 rule_alias n = rule_iso to_alias of_alias
     (rule_ahead (λ _. rule_map Some (rule_name {c = aliases} {P = Fits 6 n}))
-        (rule_at_name (rule_map Some (rule_name {c = aliases} {P = Fits 6 n})) (rule_pure None) some_named none_unnamed)
-        (λ i h. omega (arith, h)) alias_unseen)
+    (rule_at_name (rule_map Some (rule_name {c = aliases} {P = Fits 6 n})) (rule_pure None) some_named none_unnamed)
+    (λ i h. omega (arith, h)) alias_unseen)
 
 abbrev Entry : List Lexeme → EntryAst → Type 0
 Entry = Seq IsName (λ table. Map (λ alias. record { table = table; alias = alias }) IsAlias)
@@ -254,9 +254,9 @@ rule_joined : (n : ℕ) → Rule (joined n) IsJoined ors (Fits 6 n)
 unfolding joined same_mark
 rule_joined n = rule_iso to_joined of_joined
     (rule_seq (Fits 6 n) (rule_entry n)
-        (λ entry. rule_seq (Fits 6 n) (rule_expect {c = never} {P = Fits 6 n} m.On) (λ _. rule_map (λ on. record { entry = entry; on = on }) (rule_cond n)) (both 6 n) (λ a v b t l st. never_stops (v ++ t)))
-        (both 6 n)
-        (λ entry v b t l st. firm_seq aliases (IsMark m.On) (λ _. Map (λ on. record { entry = entry; on = on }) IsCond) (firm_mark aliases m.On (λ p. refl)) v b t l))
+    (λ entry. rule_seq (Fits 6 n) (rule_expect {c = never} {P = Fits 6 n} m.On) (λ _. rule_map (λ on. record { entry = entry; on = on }) (rule_cond n)) (both 6 n) (λ a v b t l st. never_stops (v ++ t)))
+    (both 6 n)
+    (λ entry v b t l st. firm_seq aliases (IsMark m.On) (λ _. Map (λ on. record { entry = entry; on = on }) IsCond) (firm_mark aliases m.On (λ p. refl)) v b t l))
 
 abbrev joins : Lexeme → Bool
 joins = any (m.Inner ∷ m.Join ∷ m.Or ∷ m.And ∷ m.Dot ∷ [])
@@ -286,9 +286,9 @@ rule_join : (n : ℕ) → Rule (join n) IsJoin joins (Fits 6 n)
 unfolding join
 rule_join n = rule_iso to_join of_join
     (rule_ahead (λ _. rule_seq (Fits 6 n) (rule_expect {c = never} {P = Fits 6 n} m.Join) (λ _. rule_weak joins (Fits 6 n) joins_ors (λ i h. h) (rule_map Some (rule_joined n))) (both 6 n) (λ a v b t l st. never_stops (v ++ t)))
-        (rule_ahead (λ _. rule_weak joins (Fits 6 n) joins_ors (λ i h. h) (rule_map Some (rule_joined n))) (rule_pure None) (λ i h. omega (arith, h))
-            (done_unseen m.Join joins None (λ t st. stops_here m.Join (m.Or ∷ m.And ∷ m.Dot ∷ []) t (stops_rest m.Inner (m.Join ∷ m.Or ∷ m.And ∷ m.Dot ∷ []) t st))))
-        (λ i h. omega (arith, h)) join_unseen)
+    (rule_ahead (λ _. rule_weak joins (Fits 6 n) joins_ors (λ i h. h) (rule_map Some (rule_joined n))) (rule_pure None) (λ i h. omega (arith, h))
+    (done_unseen m.Join joins None (λ t st. stops_here m.Join (m.Or ∷ m.And ∷ m.Dot ∷ []) t (stops_rest m.Inner (m.Join ∷ m.Or ∷ m.And ∷ m.Dot ∷ []) t st))))
+    (λ i h. omega (arith, h)) join_unseen)
 
 abbrev wheres : Lexeme → Bool
 wheres = any (m.Where ∷ m.Or ∷ m.And ∷ m.Dot ∷ [])
@@ -315,10 +315,10 @@ rule_groups : (n : ℕ) → Rule (groups n) AreGroups ending (Fits 6 n)
 unfolding groups same_mark
 rule_groups n = rule_iso to_groups of_groups
     (rule_ahead (λ _. rule_seq (Fits 6 n) (rule_expect {c = never} {P = Fits 6 n} m.By)
-            (λ _. rule_listed ending 6 n (lit< tt) (rule_weak (any (m.Dot ∷ [])) (Fits 6 n) (λ t st. st) (λ i h. omega (arith, h)) (rule_column n))
-                (ending_stops (m.Dot ∷ []) (λ p. refl)) (λ t st. stops_here m.Comma [] t (ending_stops (m.Comma ∷ []) (λ p. refl) t st)) (λ p. refl))
-            (both 6 n) (λ a v b t l st. never_stops (v ++ t)))
-        (rule_pure []) (λ i h. omega (arith, h)) (done_unseen m.Group ending [] (λ t st. stops_here m.Group [] t (ending_stops (m.Group ∷ []) (λ p. refl) t st))))
+    (λ _. rule_listed ending 6 n (lit< tt) (rule_weak (any (m.Dot ∷ [])) (Fits 6 n) (λ t st. st) (λ i h. omega (arith, h)) (rule_column n))
+    (ending_stops (m.Dot ∷ []) (λ p. refl)) (λ t st. stops_here m.Comma [] t (ending_stops (m.Comma ∷ []) (λ p. refl) t st)) (λ p. refl))
+    (both 6 n) (λ a v b t l st. never_stops (v ++ t)))
+    (rule_pure []) (λ i h. omega (arith, h)) (done_unseen m.Group ending [] (λ t st. stops_here m.Group [] t (ending_stops (m.Group ∷ []) (λ p. refl) t st))))
 
 -- ---- SELECT
 
@@ -362,16 +362,16 @@ rule_select : (n : ℕ) → Rule (select n) IsSelect ending (Fits 6 n)
 unfolding select same_mark
 rule_select n = rule_iso to_select of_select
     (rule_seq (Fits 6 n) (rule_items n)
-        (λ items. rule_seq (Fits 6 n) (rule_expect {c = never} {P = Fits 6 n} m.From)
-            (λ _. rule_seq (Fits 6 n) (rule_entry n)
-                (λ first. rule_seq (Fits 6 n) (rule_join n)
-                    (λ join. rule_seq (Fits 6 n) (rule_filter n)
-                        (λ filter. rule_map (selected items first join filter) (rule_groups n))
-                        (both 6 n) (λ filter v b t l st. through_grouped wheres (λ p. refl) items first join filter v b t l (stops_end wheres (λ p. refl) t st)))
-                    (both 6 n) (λ join v b t l st. through_filtered joins (λ p. refl) (λ p. refl) items first join v b t l (stops_end joins (λ p. refl) t st)))
-                (both 6 n) (λ first v b t l st. through_seq aliases IsJoin (Filtered items first) (through_join aliases (λ p. refl) (λ p. refl)) (through_filtered aliases (λ p. refl) (λ p. refl) items first) v b t l (stops_end aliases (λ p. refl) t st)))
-            (both 6 n) (λ a v b t l st. never_stops (v ++ t)))
-        (both 6 n) (λ items v b t l st. firm_seq parts (IsMark m.From) (λ _. Seq IsEntry (Tables items)) (firm_mark parts m.From (λ p. refl)) v b t l))
+    (λ items. rule_seq (Fits 6 n) (rule_expect {c = never} {P = Fits 6 n} m.From)
+    (λ _. rule_seq (Fits 6 n) (rule_entry n)
+    (λ first. rule_seq (Fits 6 n) (rule_join n)
+    (λ join. rule_seq (Fits 6 n) (rule_filter n)
+    (λ filter. rule_map (selected items first join filter) (rule_groups n))
+    (both 6 n) (λ filter v b t l st. through_grouped wheres (λ p. refl) items first join filter v b t l (stops_end wheres (λ p. refl) t st)))
+    (both 6 n) (λ join v b t l st. through_filtered joins (λ p. refl) (λ p. refl) items first join v b t l (stops_end joins (λ p. refl) t st)))
+    (both 6 n) (λ first v b t l st. through_seq aliases IsJoin (Filtered items first) (through_join aliases (λ p. refl) (λ p. refl)) (through_filtered aliases (λ p. refl) (λ p. refl) items first) v b t l (stops_end aliases (λ p. refl) t st)))
+    (both 6 n) (λ a v b t l st. never_stops (v ++ t)))
+    (both 6 n) (λ items v b t l st. firm_seq parts (IsMark m.From) (λ _. Seq IsEntry (Tables items)) (firm_mark parts m.From (λ p. refl)) v b t l))
 
 -- ---- INSERT
 
@@ -399,9 +399,9 @@ rule_tuple_of : (n at : ℕ) → Rule (tuple_of n at) (TupleOf at) never (Fits 6
 unfolding same_mark
 rule_tuple_of n at =
     rule_seq (Fits 6 n) (rule_listed commas 3 n (lit< tt) (rule_literal n) (λ t st. never_stops t) (stops_here m.Comma []) (λ p. refl))
-        (λ values. rule_map (λ _. record { values = values; at = at }) (rule_expect {c = never} {P = Fits 6 n} m.RightParen))
-        (λ i j h. (omega (arith, h), omega (arith, h)))
-        (λ values v b t l st. firm_map commas (λ _. record { values = values; at = at }) (IsMark m.RightParen) (firm_mark commas m.RightParen (λ p. refl)) v b t l)
+    (λ values. rule_map (λ _. record { values = values; at = at }) (rule_expect {c = never} {P = Fits 6 n} m.RightParen))
+    (λ i j h. (omega (arith, h), omega (arith, h)))
+    (λ values v b t l st. firm_map commas (λ _. record { values = values; at = at }) (IsMark m.RightParen) (firm_mark commas m.RightParen (λ p. refl)) v b t l)
 
 rule_tuple : (n : ℕ) → Rule (tuple n) IsTuple never (Fits 6 n)
 rule_tuple n = rule_alike (tuple n) (tuple_alike n) (rule_iso to_tuple of_tuple (rule_only (Fits 6 n) (λ at. rule_tuple_of n at) (λ i h. omega (arith, h))))
@@ -424,9 +424,9 @@ rule_columns : (n : ℕ) → Rule (named_columns n) AreColumns parens (Fits 6 n)
 unfolding named_columns same_mark
 rule_columns n = rule_iso to_columns of_columns
     (rule_ahead (λ _. rule_seq (Fits 6 n) (rule_listed commas 6 n (lit< tt) (rule_name {c = never} {P = Fits 6 n}) (λ t st. never_stops t) (stops_here m.Comma []) (λ p. refl))
-            (λ all. rule_map (λ _. all) (rule_expect {c = parens} {P = Fits 6 n} m.RightParen)) (both 6 n)
-            (λ all v b t l st. firm_map commas (λ _. all) (IsMark m.RightParen) (firm_mark commas m.RightParen (λ p. refl)) v b t l))
-        (rule_pure []) (λ i h. omega (arith, h)) (done_unseen m.LeftParen parens [] (stops_here m.LeftParen [])))
+    (λ all. rule_map (λ _. all) (rule_expect {c = parens} {P = Fits 6 n} m.RightParen)) (both 6 n)
+    (λ all v b t l st. firm_map commas (λ _. all) (IsMark m.RightParen) (firm_mark commas m.RightParen (λ p. refl)) v b t l))
+    (rule_pure []) (λ i h. omega (arith, h)) (done_unseen m.LeftParen parens [] (stops_here m.LeftParen [])))
 
 abbrev inserted : NameAt → List NameAt → List TupleAst → InsertAst
 inserted table columns tuples = record { table = table; columns = columns; tuples = tuples }
@@ -447,14 +447,14 @@ rule_insert : (n : ℕ) → Rule (insert n) IsInsert ending (Fits 6 n)
 unfolding insert same_mark
 rule_insert n = rule_iso to_insert of_insert
     (rule_seq (Fits 6 n) (rule_expect {c = never} {P = Fits 6 n} m.Into)
-        (λ _. rule_seq (Fits 6 n) (rule_name {c = never} {P = Fits 6 n})
-            (λ table. rule_seq (Fits 6 n) (rule_columns n)
-                (λ columns. rule_seq (Fits 6 n) (rule_expect {c = never} {P = Fits 6 n} m.Values)
-                    (λ _. rule_map (inserted table columns) (rule_listed ending 6 n (lit< tt) (rule_tuple n) (λ t st. never_stops t) (λ t st. stops_here m.Comma [] t (ending_stops (m.Comma ∷ []) (λ p. refl) t st)) (λ p. refl)))
-                    (both 6 n) (λ a v b t l st. never_stops (v ++ t)))
-                (both 6 n) (λ columns v b t l st. firm_seq parens (IsMark m.Values) (λ _. Map (inserted table columns) (Listed IsTuple)) (firm_mark parens m.Values (λ p. refl)) v b t l))
-            (both 6 n) (λ a v b t l st. never_stops (v ++ t)))
-        (both 6 n) (λ a v b t l st. never_stops (v ++ t)))
+    (λ _. rule_seq (Fits 6 n) (rule_name {c = never} {P = Fits 6 n})
+    (λ table. rule_seq (Fits 6 n) (rule_columns n)
+    (λ columns. rule_seq (Fits 6 n) (rule_expect {c = never} {P = Fits 6 n} m.Values)
+    (λ _. rule_map (inserted table columns) (rule_listed ending 6 n (lit< tt) (rule_tuple n) (λ t st. never_stops t) (λ t st. stops_here m.Comma [] t (ending_stops (m.Comma ∷ []) (λ p. refl) t st)) (λ p. refl)))
+    (both 6 n) (λ a v b t l st. never_stops (v ++ t)))
+    (both 6 n) (λ columns v b t l st. firm_seq parens (IsMark m.Values) (λ _. Map (inserted table columns) (Listed IsTuple)) (firm_mark parens m.Values (λ p. refl)) v b t l))
+    (both 6 n) (λ a v b t l st. never_stops (v ++ t)))
+    (both 6 n) (λ a v b t l st. never_stops (v ++ t)))
 
 -- ---- UPDATE
 
@@ -511,8 +511,8 @@ rule_set : (n : ℕ) → Rule (assignment n) IsSet pluses (Fits 6 n)
 unfolding assignment
 rule_set n = rule_iso to_set of_set
     (rule_seq (Fits 6 n) (rule_name {c = never} {P = Fits 6 n})
-        (λ column. rule_seq (Fits 6 n) (rule_equal n) (λ _. rule_map (λ value. record { column = column; value = value }) (rule_expr n)) (both 6 n) (λ a v b t l st. never_stops (v ++ t)))
-        (both 6 n) (λ a v b t l st. never_stops (v ++ t)))
+    (λ column. rule_seq (Fits 6 n) (rule_equal n) (λ _. rule_map (λ value. record { column = column; value = value }) (rule_expr n)) (both 6 n) (λ a v b t l st. never_stops (v ++ t)))
+    (both 6 n) (λ a v b t l st. never_stops (v ++ t)))
 
 abbrev updated : NameAt → List SetAst → Option CondAst → UpdateAst
 updated table sets filter = record { table = table; sets = sets; filter = filter }
@@ -534,13 +534,13 @@ rule_update : (n : ℕ) → Rule (update n) IsUpdate ending (Fits 6 n)
 unfolding update same_mark
 rule_update n = rule_iso to_update of_update
     (rule_seq (Fits 6 n) (rule_name {c = never} {P = Fits 6 n})
-        (λ table. rule_seq (Fits 6 n) (rule_expect {c = never} {P = Fits 6 n} m.Set)
-            (λ _. rule_seq (Fits 6 n)
-                (rule_listed parts 6 n (lit< tt) (rule_set n) (stops_rest m.Comma (m.Plus ∷ m.Minus ∷ m.Star ∷ m.Dot ∷ [])) (stops_here m.Comma (m.Plus ∷ m.Minus ∷ m.Star ∷ m.Dot ∷ [])) (λ p. refl))
-                (λ sets. rule_map (updated table sets) (rule_ended_filter n))
-                (both 6 n) (λ sets v b t l st. through_map parts (updated table sets) (Optional m.Where IsCond) (through_optional parts m.Where IsCond (λ p. refl)) v b t l (stops_end parts (λ p. refl) t st)))
-            (both 6 n) (λ a v b t l st. never_stops (v ++ t)))
-        (both 6 n) (λ a v b t l st. never_stops (v ++ t)))
+    (λ table. rule_seq (Fits 6 n) (rule_expect {c = never} {P = Fits 6 n} m.Set)
+    (λ _. rule_seq (Fits 6 n)
+    (rule_listed parts 6 n (lit< tt) (rule_set n) (stops_rest m.Comma (m.Plus ∷ m.Minus ∷ m.Star ∷ m.Dot ∷ [])) (stops_here m.Comma (m.Plus ∷ m.Minus ∷ m.Star ∷ m.Dot ∷ [])) (λ p. refl))
+    (λ sets. rule_map (updated table sets) (rule_ended_filter n))
+    (both 6 n) (λ sets v b t l st. through_map parts (updated table sets) (Optional m.Where IsCond) (through_optional parts m.Where IsCond (λ p. refl)) v b t l (stops_end parts (λ p. refl) t st)))
+    (both 6 n) (λ a v b t l st. never_stops (v ++ t)))
+    (both 6 n) (λ a v b t l st. never_stops (v ++ t)))
 
 -- ---- DELETE
 
@@ -557,8 +557,8 @@ rule_delete : (n : ℕ) → Rule (delete n) IsDelete ending (Fits 6 n)
 unfolding delete
 rule_delete n = rule_iso to_delete of_delete
     (rule_seq (Fits 6 n) (rule_expect {c = never} {P = Fits 6 n} m.From)
-        (λ _. rule_seq (Fits 6 n) (rule_name {c = never} {P = Fits 6 n}) (λ table. rule_map (λ filter. record { table = table; filter = filter }) (rule_ended_filter n)) (both 6 n) (λ a v b t l st. never_stops (v ++ t)))
-        (both 6 n) (λ a v b t l st. never_stops (v ++ t)))
+    (λ _. rule_seq (Fits 6 n) (rule_name {c = never} {P = Fits 6 n}) (λ table. rule_map (λ filter. record { table = table; filter = filter }) (rule_ended_filter n)) (both 6 n) (λ a v b t l st. never_stops (v ++ t)))
+    (both 6 n) (λ a v b t l st. never_stops (v ++ t)))
 
 -- ---- commands
 
@@ -598,6 +598,6 @@ rule_command n = rule_iso to_command of_command
     (rule_ahead (λ _. rule_map ast_of.Select (rule_select n))
     (rule_ahead (λ _. rule_map ast_of.Insert (rule_insert n))
     (rule_ahead (λ _. rule_map ast_of.Update (rule_update n)) (rule_only (Fits 6 n) (λ _. rule_map ast_of.Delete (rule_delete n)) (λ i h. omega (arith, h)))
-        (λ i h. omega (arith, h)) (λ u a t l st. no_update u a t l))
-        (λ i h. omega (arith, h)) (λ u a t l st. no_insert u a t l))
-        (λ i h. omega (arith, h)) (λ u a t l st. no_select u a t l))
+    (λ i h. omega (arith, h)) (λ u a t l st. no_update u a t l))
+    (λ i h. omega (arith, h)) (λ u a t l st. no_insert u a t l))
+    (λ i h. omega (arith, h)) (λ u a t l st. no_select u a t l))

@@ -114,16 +114,30 @@ command_refused n s [] fits k e =
     let all : s ≡ k.front = k.split ∙ append-nil k.front in
     Cause.at_end (subst Begins (sym all) (begun k.front k.more k.tree k.gives), λ a l. let z = is_read n s a l fits in absurd (cc))
 command_refused n s (x ∷ v) fits k e =
-    Cause.at_word x v (k.front, x, v, k.split, refl, begun k.front k.more k.tree k.gives,
-        none_with n k.front x (fits_front n s k.front (x ∷ v) k.split fits) (λ w. by_parts n (k.front ++ x ∷ w) ∙ rw (k.same x v w refl) refl))
+    Cause.at_word x v (
+      k.front,
+      x,
+      v,
+      k.split,
+      refl,
+      begun k.front k.more k.tree k.gives,
+      none_with n k.front x (fits_front n s k.front (x ∷ v) k.split fits) (λ w. by_parts n (k.front ++ x ∷ w) ∙ rw (k.same x v w refl) refl),
+    )
 
 ended_err : (n : ℕ) (s : List Lexeme) (a : Ast) (x : Lexeme) (r t : List Lexeme) (v : Bool) → Fits 6 n (length s) → Got (command n) IsCommand s a (x ∷ r)
     → is_mark m.Semicolon x.word ≡ v → ended a (x ∷ r) ≡ Err t → Cause s t
 ended_err n s a x r t false fits one h e =
     let z = rw h at e in
     let q : (x ∷ r) ≡ t = cc in
-    subst (λ z. Cause s z) q (Cause.at_word x r (one.front, x, r, one.split, refl, begun_all one.front a (IsStatement.plain one.gives),
-        none_with n one.front x (fits_front n s one.front (x ∷ r) one.split fits) (λ w. by_parts n (one.front ++ x ∷ w) ∙ rw (one.same x r w refl, h) refl)))
+    subst (λ z. Cause s z) q (Cause.at_word x r (
+      one.front,
+      x,
+      r,
+      one.split,
+      refl,
+      begun_all one.front a (IsStatement.plain one.gives),
+      none_with n one.front x (fits_front n s one.front (x ∷ r) one.split fits) (λ w. by_parts n (one.front ++ x ∷ w) ∙ rw (one.same x r w refl, h) refl),
+    ))
 ended_err n s a x [] t true fits one h e = let z = rw h at e in absurd (cc)
 ended_err n s a x (y ∷ r) t true fits one h e =
     let z = rw h at e in
@@ -140,8 +154,9 @@ ended_refused n s a (x ∷ r) t fits one e = ended_err n s a x r t (is_mark m.Se
 
 pub refused : (n : ℕ) (s t : List Lexeme) → Fits 6 n (length s) → statement n s ≡ Err t → Cause s t
 refused n s t fits e = elim (bind_err (command n s) ended t (sym (by_parts n s) ∙ e)) [
-    inl h ↦ command_refused n s t fits ((rule_command n).stuck s t h) e
-  | inr k ↦ ended_refused n s k.0.0 k.0.1 t fits ((rule_command n).got s k.0.1 k.0.0 k.1) k.2 ]
+  | inl h ↦ command_refused n s t fits ((rule_command n).stuck s t h) e
+  | inr k ↦ ended_refused n s k.0.0 k.0.1 t fits ((rule_command n).got s k.0.1 k.0.0 k.1) k.2
+]
 
 pub cause_end : (s t : List Lexeme) → Cause s t → length t < 1 → Unended s
 cause_end s t (Cause.at_word x rest u) h = absurd (omega (arith, h))

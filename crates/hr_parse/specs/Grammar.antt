@@ -76,13 +76,13 @@ pub data IsCheck (left : OperandAst) : List Lexeme → CondAst → Type 0 where
   is_null : (p q : ℕ) → IsCheck left (mark m.Is p ∷ mark m.Null q ∷ []) (cond_of.IsNull left false)
   is_not_null : (p q r : ℕ) → IsCheck left (mark m.Is p ∷ mark m.Not q ∷ mark m.Null r ∷ []) (cond_of.IsNull left true)
   between : (p q : ℕ) {u v : List Lexeme} {a b : OperandAst} → IsOperand u a → IsOperand v b
-    → IsCheck left (mark m.Between p ∷ (u ++ (mark m.And q ∷ v))) (cond_of.Between left a b false)
+      → IsCheck left (mark m.Between p ∷ (u ++ (mark m.And q ∷ v))) (cond_of.Between left a b false)
   not_between : (o p q : ℕ) {u v : List Lexeme} {a b : OperandAst} → IsOperand u a → IsOperand v b
-    → IsCheck left (mark m.Not o ∷ mark m.Between p ∷ (u ++ (mark m.And q ∷ v))) (cond_of.Between left a b true)
+      → IsCheck left (mark m.Not o ∷ mark m.Between p ∷ (u ++ (mark m.And q ∷ v))) (cond_of.Between left a b true)
   among : (p q r : ℕ) {u : List Lexeme} {all : List LiteralAst} → Listed IsLiteral u all
-    → IsCheck left (mark m.In p ∷ mark m.LeftParen q ∷ (u ++ (mark m.RightParen r ∷ []))) (cond_of.Among left all false)
+      → IsCheck left (mark m.In p ∷ mark m.LeftParen q ∷ (u ++ (mark m.RightParen r ∷ []))) (cond_of.Among left all false)
   not_among : (o p q r : ℕ) {u : List Lexeme} {all : List LiteralAst} → Listed IsLiteral u all
-    → IsCheck left (mark m.Not o ∷ mark m.In p ∷ mark m.LeftParen q ∷ (u ++ (mark m.RightParen r ∷ []))) (cond_of.Among left all true)
+      → IsCheck left (mark m.Not o ∷ mark m.In p ∷ mark m.LeftParen q ∷ (u ++ (mark m.RightParen r ∷ []))) (cond_of.Among left all true)
 
 mutual
   -- neg = NOT neg | "(" cond ")" | operand check
@@ -141,13 +141,13 @@ mutual
 pub data IsItem : List Lexeme → ItemAst → Type 0 where
   count_all : (p q r s : ℕ) → IsItem (mark m.Count p ∷ mark m.LeftParen q ∷ mark m.Star r ∷ mark m.RightParen s ∷ []) (item_of.CountAll p)
   count : (p q r : ℕ) {u : List Lexeme} {a : ColumnAst} → IsColumn u a
-    → IsItem (mark m.Count p ∷ mark m.LeftParen q ∷ (u ++ (mark m.RightParen r ∷ []))) (item_of.Aggregate word_of.Count a p)
+      → IsItem (mark m.Count p ∷ mark m.LeftParen q ∷ (u ++ (mark m.RightParen r ∷ []))) (item_of.Aggregate word_of.Count a p)
   total : (p q r : ℕ) {u : List Lexeme} {a : ColumnAst} → IsColumn u a
-    → IsItem (mark m.Sum p ∷ mark m.LeftParen q ∷ (u ++ (mark m.RightParen r ∷ []))) (item_of.Aggregate word_of.Sum a p)
+      → IsItem (mark m.Sum p ∷ mark m.LeftParen q ∷ (u ++ (mark m.RightParen r ∷ []))) (item_of.Aggregate word_of.Sum a p)
   least : (p q r : ℕ) {u : List Lexeme} {a : ColumnAst} → IsColumn u a
-    → IsItem (mark m.Min p ∷ mark m.LeftParen q ∷ (u ++ (mark m.RightParen r ∷ []))) (item_of.Aggregate word_of.Min a p)
+      → IsItem (mark m.Min p ∷ mark m.LeftParen q ∷ (u ++ (mark m.RightParen r ∷ []))) (item_of.Aggregate word_of.Min a p)
   greatest : (p q r : ℕ) {u : List Lexeme} {a : ColumnAst} → IsColumn u a
-    → IsItem (mark m.Max p ∷ mark m.LeftParen q ∷ (u ++ (mark m.RightParen r ∷ []))) (item_of.Aggregate word_of.Max a p)
+      → IsItem (mark m.Max p ∷ mark m.LeftParen q ∷ (u ++ (mark m.RightParen r ∷ []))) (item_of.Aggregate word_of.Max a p)
   plain : {u : List Lexeme} {a : ExprAst} → IsExpr u a → IsItem u (item_of.Plain a)
 
 -- items = "*" | item { "," item }
@@ -183,15 +183,15 @@ pub data AreGroups : List Lexeme → List ColumnAst → Type 0 where
 -- select = SELECT items FROM entry [ [ INNER ] JOIN entry ON cond ] [ WHERE cond ] [ GROUP BY column { "," column } ], behind its first word
 pub data IsSelect : List Lexeme → SelectAst → Type 0 where
   select : (p : ℕ) {u v w x y : List Lexeme} {a : Items} {b : EntryAst} {c : Option JoinAst} {d : Option CondAst} {e : List ColumnAst}
-    → AreItems u a → IsEntry v b → IsJoin w c → Optional m.Where IsCond x d → AreGroups y e
-    → IsSelect (u ++ (mark m.From p ∷ (v ++ (w ++ (x ++ y))))) (record { items = a; first = b; join = c; filter = d; groups = e })
+      → AreItems u a → IsEntry v b → IsJoin w c → Optional m.Where IsCond x d → AreGroups y e
+      → IsSelect (u ++ (mark m.From p ∷ (v ++ (w ++ (x ++ y))))) (record { items = a; first = b; join = c; filter = d; groups = e })
 
 -- ---- INSERT, UPDATE and DELETE, each behind its first word
 
 -- tuple = "(" literal { "," literal } ")"
 pub data IsTuple : List Lexeme → TupleAst → Type 0 where
   tuple : (p q : ℕ) {u : List Lexeme} {all : List LiteralAst} → Listed IsLiteral u all
-    → IsTuple (mark m.LeftParen p ∷ (u ++ (mark m.RightParen q ∷ []))) (record { values = all; at = p })
+      → IsTuple (mark m.LeftParen p ∷ (u ++ (mark m.RightParen q ∷ []))) (record { values = all; at = p })
 
 -- [ "(" name { "," name } ")" ]
 pub data AreColumns : List Lexeme → List NameAt → Type 0 where
@@ -201,7 +201,7 @@ pub data AreColumns : List Lexeme → List NameAt → Type 0 where
 -- insert = INSERT INTO name [ "(" name { "," name } ")" ] VALUES tuple { "," tuple }
 pub data IsInsert : List Lexeme → InsertAst → Type 0 where
   insert : (p q : ℕ) {u v w : List Lexeme} {a : NameAt} {b : List NameAt} {c : List TupleAst} → IsName u a → AreColumns v b → Listed IsTuple w c
-    → IsInsert (mark m.Into p ∷ (u ++ (v ++ (mark m.Values q ∷ w)))) (record { table = a; columns = b; tuples = c })
+      → IsInsert (mark m.Into p ∷ (u ++ (v ++ (mark m.Values q ∷ w)))) (record { table = a; columns = b; tuples = c })
 
 -- name "=" expr
 pub data IsSet : List Lexeme → SetAst → Type 0 where
@@ -210,12 +210,12 @@ pub data IsSet : List Lexeme → SetAst → Type 0 where
 -- update = UPDATE name SET name "=" expr { "," name "=" expr } [ WHERE cond ]
 pub data IsUpdate : List Lexeme → UpdateAst → Type 0 where
   update : (p : ℕ) {u v w : List Lexeme} {a : NameAt} {b : List SetAst} {c : Option CondAst} → IsName u a → Listed IsSet v b → Optional m.Where IsCond w c
-    → IsUpdate (u ++ (mark m.Set p ∷ (v ++ w))) (record { table = a; sets = b; filter = c })
+      → IsUpdate (u ++ (mark m.Set p ∷ (v ++ w))) (record { table = a; sets = b; filter = c })
 
 -- delete = DELETE FROM name [ WHERE cond ]
 pub data IsDelete : List Lexeme → DeleteAst → Type 0 where
   delete : (p : ℕ) {u v : List Lexeme} {a : NameAt} {b : Option CondAst} → IsName u a → Optional m.Where IsCond v b
-    → IsDelete (mark m.From p ∷ (u ++ v)) (record { table = a; filter = b })
+      → IsDelete (mark m.From p ∷ (u ++ v)) (record { table = a; filter = b })
 
 -- ---- statements
 

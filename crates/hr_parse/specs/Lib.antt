@@ -1,5 +1,6 @@
 pub mod Words
 pub mod Trees
+pub mod Lexemes
 pub mod Grammar
 pub mod Reading
 pub mod Parse

@@ -5,12 +5,13 @@ mod ast;
 mod change;
 mod cond;
 mod expr;
+mod lexeme;
 mod list;
 mod name;
 mod operand;
-mod parse;
 mod select;
 mod statement;
+mod texts;
 mod word;
 mod words;
 
@@ -18,3 +19,4 @@ pub use ast::{
     AggWord, Ast, ColumnAst, CondAst, DeleteAst, EntryAst, ExprAst, ExprKind, InsertAst, ItemAst,
     Items, JoinAst, LitAst, LiteralAst, NameAt, OperandAst, SelectAst, SetAst, TupleAst, UpdateAst,
 };
+pub use texts::{ParseError, parse};

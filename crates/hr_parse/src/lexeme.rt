@@ -1,0 +1,145 @@
+//! Tokens as words.
+
+ghost use Rattle.std.specs.Prelude.{◌≡◌, ◌≤◌, false, map, length, IfOk};
+ghost use Rattle.std.specs.List.{AllByRecursion};
+ghost use Rattle.std.specs.Str.{str_to_ascii_lowercase};
+ghost use Rattle.hr_lex.specs.Tokens.{IsTokenOf, IsNameText};
+ghost use Rattle.hr_parse.specs.Lexemes as spec;
+
+use crate::word::{Lexeme, Mark, Word};
+use hr_lex::{Keyword, Token, TokenKind};
+use hr_rel::{Name, Op, Seq};
+use std::alloc::{AllocError, Global};
+
+fn mark_of(keyword: Keyword) -> Mark
+    ensures { result ≡ spec.mark_of keyword }
+{
+    match keyword {
+        Keyword::Select => Mark::Select,
+        Keyword::From => Mark::From,
+        Keyword::Inner => Mark::Inner,
+        Keyword::Join => Mark::Join,
+        Keyword::On => Mark::On,
+        Keyword::Where => Mark::Where,
+        Keyword::Group => Mark::Group,
+        Keyword::By => Mark::By,
+        Keyword::Insert => Mark::Insert,
+        Keyword::Into => Mark::Into,
+        Keyword::Values => Mark::Values,
+        Keyword::Update => Mark::Update,
+        Keyword::Set => Mark::Set,
+        Keyword::Delete => Mark::Delete,
+        Keyword::And => Mark::And,
+        Keyword::Or => Mark::Or,
+        Keyword::Not => Mark::Not,
+        Keyword::Is => Mark::Is,
+        Keyword::Null => Mark::Null,
+        Keyword::Between => Mark::Between,
+        Keyword::In => Mark::In,
+        Keyword::As => Mark::As,
+        Keyword::Count => Mark::Count,
+        Keyword::Sum => Mark::Sum,
+        Keyword::Min => Mark::Min,
+        Keyword::Max => Mark::Max,
+        Keyword::Begin => Mark::Begin,
+        Keyword::Commit => Mark::Commit,
+        Keyword::Rollback => Mark::Rollback,
+        Keyword::Order => Mark::Order,
+        Keyword::Limit => Mark::Limit,
+        Keyword::Asc => Mark::Asc,
+        Keyword::Desc => Mark::Desc,
+    }
+}
+
+/// The bytes in small letters.
+fn small(alloc: Global, bytes: &[u8]) -> Result<Vec<u8>, AllocError>
+    ensures { IfOk result (λ v. v.items ≡ str_to_ascii_lowercase bytes.now) }
+{
+    bytes.iter().map(|b| b.to_ascii_lowercase()).collect(alloc)
+}
+
+/// The name that the bytes of a name's token are.
+fn name(alloc: Global, bytes: &[u8]) -> Result<Name, AllocError>
+    requires { IsNameText bytes.now }
+    ensures { IfOk result (λ n. n ≡ str_to_ascii_lowercase bytes.now) }
+{
+    let lowered = small(alloc, bytes)?;
+    match Name::new(&lowered) {
+        Some(name) => Ok(name),
+        None => unreachable!(),
+    }
+}
+
+/// Bytes in which each quote is doubled, with each of them once.
+fn undoubled(alloc: Global, mut bytes: &[u8]) -> Result<Vec<u8>, AllocError>
+    ensures { IfOk result (λ v. v.items ≡ spec.undoubled false bytes.entry.now) }
+{
+    let mut out = Vec::new(alloc);
+    let mut after_quote = false;
+    while let [b, rest @ ..] = bytes {
+        if after_quote {
+            after_quote = false;
+        } else {
+            out.push(*b)?;
+            after_quote = *b == b'\'';
+        }
+        bytes = rest;
+    }
+    Ok(out)
+}
+
+/// The bytes between the quotes.
+fn between_quotes(bytes: &[u8]) -> &[u8]
+    ensures { result.now ≡ spec.between_quotes bytes.now }
+{
+    match bytes {
+        [_, inner @ .., _] => inner,
+        _ => &[],
+    }
+}
+
+/// What a token of this kind says, on these bytes.
+fn word(alloc: Global, kind: TokenKind, bytes: &[u8]) -> Result<Word, AllocError>
+    requires { kind ≡ TokenKind.Name → IsNameText bytes.now }
+    ensures { IfOk result (λ w. w ≡ spec.word_of bytes.now kind) }
+{
+    Ok(match kind {
+        TokenKind::Keyword(keyword) => Word::Fixed(mark_of(keyword)),
+        TokenKind::Name => Word::Name(name(alloc, bytes)?),
+        TokenKind::Number(number) => Word::Number(number),
+        TokenKind::Text => Word::Text(Seq::from_vec(undoubled(alloc, between_quotes(bytes))?)),
+        TokenKind::LeftParen => Word::Fixed(Mark::LeftParen),
+        TokenKind::RightParen => Word::Fixed(Mark::RightParen),
+        TokenKind::Comma => Word::Fixed(Mark::Comma),
+        TokenKind::Dot => Word::Fixed(Mark::Dot),
+        TokenKind::Semicolon => Word::Fixed(Mark::Semicolon),
+        TokenKind::Star => Word::Fixed(Mark::Star),
+        TokenKind::Plus => Word::Fixed(Mark::Plus),
+        TokenKind::Minus => Word::Fixed(Mark::Minus),
+        TokenKind::Equal => Word::Compare(Op::Eq),
+        TokenKind::NotEqual => Word::Compare(Op::Ne),
+        TokenKind::BangEqual => Word::Compare(Op::Ne),
+        TokenKind::Less => Word::Compare(Op::Lt),
+        TokenKind::LessEqual => Word::Compare(Op::Le),
+        TokenKind::Greater => Word::Compare(Op::Gt),
+        TokenKind::GreaterEqual => Word::Compare(Op::Ge),
+    })
+}
+
+/// What the tokens of a text say.
+pub fn lexemes(alloc: Global, text: &[u8], mut tokens: &[Token]) -> Result<Vec<Lexeme>, AllocError>
+    requires { AllByRecursion (IsTokenOf text.now) tokens.now }
+    ensures { IfOk result (λ v. v.items ≡ spec.lexemes text.now tokens.entry.now) }
+{
+    let mut all = Vec::new(alloc);
+    while let [token, rest @ ..] = tokens {
+        let bytes = &text[token.from as usize..token.to as usize];
+        let word = word(alloc, token.kind, bytes)?;
+        all.push(Lexeme {
+            word,
+            at: token.from,
+        })?;
+        tokens = rest;
+    }
+    Ok(all)
+}
