@@ -5,4 +5,6 @@ pub mod Orders
 pub mod AttemptLaws
 pub mod WaitLaws
 pub mod BaseLaws
+pub mod StopLaws
+pub mod AnyList
 pub mod WorkedLemmas

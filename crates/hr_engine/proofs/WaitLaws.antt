@@ -1,15 +1,16 @@
 -- What one more call makes of waits.
-use Rattle.std.proofs.Common.{◌≡◌, ℕ, true, false, ◌==◌, List, [], ◌∷◌, ◌++◌, ap, ◌∙◌}
+use Rattle.std.proofs.Common.{◌≡◌, ℕ, Bool, true, false, cond, not, ◌==◌, List, [], ◌∷◌, ◌++◌, refl, ap, ◌∙◌}
 use Rattle.std.specs.List.{filter}
 use Rattle.std.proofs.lemmas.Bool.{or_right, and_left}
 use Rattle.hr_rel.specs.declared.answer.Answer.{Answer}
 use Rattle.hr_rel.specs.declared.stmt.Stmt.{Stmt}
 use Rattle.hr_engine.specs.declared.reply.RunReply.TheVariants as run
-use Rattle.hr_engine.specs.Journal.{Call, Ran, Journal}
-use Rattle.hr_engine.specs.Attempts.{is_running}
+use Rattle.hr_engine.specs.declared.reply.EndReply.TheVariants as end
+use Rattle.hr_engine.specs.Journal.{Call, Ran, Committed, RolledBack, Journal}
+use Rattle.hr_engine.specs.Attempts.{attempt, is_running}
 use Rattle.hr_engine.specs.Waits.{wait, next_wait, is_chain, Leads}
-use Rattle.hr_engine.specs.Lists.{has}
-use Rattle.hr_engine.proofs.ListLaws.{filter_all, has-filter}
+use Rattle.hr_engine.specs.Lists.{has, is_empty, once}
+use Rattle.hr_engine.proofs.ListLaws.{filter_all, filter_agree_on, has-filter}
 use Rattle.hr_engine.proofs.AttemptLaws.{same_txn, other_txn, is_running-done}
 
 -- who is waited for runs
@@ -42,3 +43,50 @@ module _ (journal : Journal) (t : ℕ) where
       let after = λ (x : ℕ). is_running x (Ran t stmt (run.Done answer) ∷ journal) in
       ap (filter after) (other_txn u t [] (wait u journal) differ)
       ∙ filter_all after (wait u journal) (λ x h. is_running-done journal t stmt answer x ∙ or_right (x == t) (is_running x journal) (wait_runs u x journal h))
+
+  -- Blocked: the asker waits for those named that run
+  pub wait-blocked : (stmt : Stmt) (named : List ℕ) → wait t (Ran t stmt (run.Blocked named) ∷ journal) ≡ filter (λ u. is_running u journal) (once named)
+  wait-blocked stmt named = ap (filter (λ u. is_running u journal)) (same_txn t (once named) (wait t journal))
+
+  -- Deadlock: the asker waits for nobody
+  pub wait-deadlock : (stmt : Stmt) (cycle : List ℕ) → wait t (Ran t stmt (run.Deadlock cycle) ∷ journal) ≡ []
+  wait-deadlock stmt cycle = ap (filter (λ u. is_running u journal)) (same_txn t [] (wait t journal))
+
+  -- who waits for running ones keeps waiting for them
+  kept_waits : (u : ℕ) → filter (λ x. is_running x journal) (wait u journal) ≡ wait u journal
+  kept_waits u = filter_all (λ x. is_running x journal) (wait u journal) (λ x h. wait_runs u x journal h)
+
+  -- neither changes the waits of others
+  pub wait-blocked_other : (u : ℕ) (stmt : Stmt) (named : List ℕ) → (u ≡ t → ⊥) → wait u (Ran t stmt (run.Blocked named) ∷ journal) ≡ wait u journal
+  wait-blocked_other u stmt named differ = ap (filter (λ x. is_running x journal)) (other_txn u t (once named) (wait u journal) differ) ∙ kept_waits u
+
+  pub wait-deadlock_other : (u : ℕ) (stmt : Stmt) (cycle : List ℕ) → (u ≡ t → ⊥) → wait u (Ran t stmt (run.Deadlock cycle) ∷ journal) ≡ wait u journal
+  wait-deadlock_other u stmt cycle differ = ap (filter (λ x. is_running x journal)) (other_txn u t [] (wait u journal) differ) ∙ kept_waits u
+
+  -- want of memory changes nobody's wait
+  pub wait-no_memory : (u : ℕ) (stmt : Stmt) → wait u (Ran t stmt run.NoMemory ∷ journal) ≡ wait u journal
+  wait-no_memory u stmt = kept_waits u
+
+  -- where a transaction ends, it waits for nobody, and nobody waits for it
+  pub wait-committed : wait t (Committed t end.Done ∷ journal) ≡ []
+  wait-committed = ap (filter (λ u. is_running u (Committed t end.Done ∷ journal))) (same_txn t [] (wait t journal))
+
+  pub wait-rolled_back : wait t (RolledBack t end.Done ∷ journal) ≡ []
+  wait-rolled_back = ap (filter (λ u. is_running u (RolledBack t end.Done ∷ journal))) (same_txn t [] (wait t journal))
+
+  -- of those that ran, the ended one alone stops
+  still_runs : (x : ℕ) (b : Bool) → (x == t) ≡ b → is_running x journal ≡ true → not (is_empty (cond b [] (attempt x journal))) ≡ not b
+  still_runs x true e runs = refl
+  still_runs x false e runs = runs
+
+  pub wait-committed_other : (u : ℕ) → (u ≡ t → ⊥) → wait u (Committed t end.Done ∷ journal) ≡ filter (λ x. not (x == t)) (wait u journal)
+  wait-committed_other u differ =
+      let after = λ (x : ℕ). is_running x (Committed t end.Done ∷ journal) in
+      ap (filter after) (other_txn u t [] (wait u journal) differ)
+      ∙ filter_agree_on after (λ x. not (x == t)) (wait u journal) (λ x h. still_runs x (x == t) refl (wait_runs u x journal h))
+
+  pub wait-rolled_back_other : (u : ℕ) → (u ≡ t → ⊥) → wait u (RolledBack t end.Done ∷ journal) ≡ filter (λ x. not (x == t)) (wait u journal)
+  wait-rolled_back_other u differ =
+      let after = λ (x : ℕ). is_running x (RolledBack t end.Done ∷ journal) in
+      ap (filter after) (other_txn u t [] (wait u journal) differ)
+      ∙ filter_agree_on after (λ x. not (x == t)) (wait u journal) (λ x h. still_runs x (x == t) refl (wait_runs u x journal h))

@@ -4,7 +4,7 @@ use hr_rel::{Answer, Seq};
 pub type TxnId = u64;
 
 /// What a backend replies to a statement.
-#[derive(Drop)]
+#[derive(Debug, PartialEq, Eq, Drop)]
 pub enum RunReply {
     /// The statement ran; its answer is canonical. A statement that fails is answered so too, and changes nothing.
     Done(Answer),

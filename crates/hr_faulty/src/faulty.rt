@@ -16,6 +16,7 @@ use hr_rel::{Answer, Rows, RunError, Seq, Stmt, Value};
 use std::alloc::{AllocError, Global};
 
 /// A backend that does what its script says at the calls that the script names, over a backend that does the rest.
+#[derive(Drop)]
 pub struct Faulty<B> {
     inner: B,
     script: Seq<Fault>,
