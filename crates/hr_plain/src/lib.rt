@@ -5,5 +5,7 @@ mod fit;
 mod insert;
 mod plain;
 mod point;
+#[cfg(test)]
+mod tests;
 
 pub use plain::Plain;
