@@ -1,5 +1,5 @@
 -- Replicas are seen one by one.
-use Rattle.std.proofs.Common.{◌≡◌, ℕ, ◌+◌, false, None, Option, List, [], ◌∷◌, ◌++◌, length, map, refl, ap, sym, ◌∙◌, arith}
+use Rattle.std.proofs.Common.{◌≡◌, ℕ, ◌+◌, false, None, Option, List, [], ◌∷◌, ◌++◌, length, map, ap, sym, ◌∙◌, arith}
 use Rattle.std.specs.List.{range_with_len}
 use Rattle.std.proofs.lemmas.List.FromFn.{map-range_with_len_more}
 use Rattle.hr_engine.specs.declared.reply.RunReply.{RunReply}

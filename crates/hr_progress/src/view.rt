@@ -138,3 +138,17 @@ fn idle_replicas(alloc: Global, count: u32) -> Result<Vec<Progress>, AllocError>
     }
     Ok(replicas)
 }
+
+#[cfg(test)]
+mod tests {
+    use super::View;
+    use std::test::Fail;
+
+    #[test]
+    fn a_new_view(rt: HostRuntime) -> Result<(), Fail> {
+        let view = View::new(rt.alloc(), 1)?;
+        assert_eq!(rt; view.commits(), 0);
+        assert_eq!(rt; view.primary(), Some(0));
+        Ok(())
+    }
+}
