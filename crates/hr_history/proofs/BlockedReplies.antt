@@ -1,5 +1,5 @@
 -- The test of a Blocked reply, by a view, is exact.
-use Rattle.std.proofs.Common.{◌≡◌, ℕ, Bool, true, false, ◌||◌, ◌==◌, nat_eq, cond, Some, None, unwrap_or, List, [], ◌∷◌, length, map, IsTrue, ◌↔◌, ap, sym, ◌∙◌, refl, le_of_eq}
+use Rattle.std.proofs.Common.{◌≡◌, ℕ, false, ◌==◌, nat_eq, cond, Some, None, unwrap_or, List, [], ◌∷◌, length, map, IsTrue, ◌↔◌, ap, ◌∙◌, refl, le_of_eq}
 use Rattle.std.specs.Map.{lookup}
 use Rattle.std.proofs.lemmas.List.{length-map}
 use Rattle.hr_engine.specs.Lists.{has}
@@ -22,8 +22,7 @@ pub blocked_exact : (v : View) (r asker : ℕ) (named : List ℕ)
 blocked_exact v r asker named =
     let es = (replica_in v r).attempts in
     let only : (u : ℕ) → has (map (λ (e : ℕ × Attempt). e.0) es) u ≡ false → wait_in v r u ≡ [] =
-        λ u h. ap (λ o. named_in (unwrap_or o no_attempt).last) (lookup_none u es h) in
-    (
+    λ u h. ap (λ o. named_in (unwrap_or o no_attempt).last) (lookup_none u es h) in (
       λ passes. passes_sound (wait_in v r) (map (λ (e : ℕ × Attempt). e.0) es) only (runs_in v r) (length es) asker named (le_of_eq (length-map es _)) passes,
       λ sound. sound_passes (wait_in v r) (runs_in v r) (length es) asker named sound,
     )

@@ -1,10 +1,9 @@
 -- Who is reached by steps is reached by a chain of waits.
-use Rattle.std.proofs.Common.{◌≡◌, ℕ, zero, suc, Bool, true, false, not, ◌&&◌, ◌||◌, ◌==◌, cond, List, [], ◌∷◌, ◌++◌, filter, flat_map, ◌⊎◌, inl, inr, ⊎_elim, IsTrue, refl, ap, sym, subst, ◌∙◌}
-use Rattle.std.specs.List.{list_any}
+use Rattle.std.proofs.Common.{◌≡◌, ℕ, zero, suc, Bool, true, false, not, ◌&&◌, ◌||◌, ◌==◌, cond, List, [], ◌∷◌, ◌++◌, filter, flat_map, ◌⊎◌, inl, inr, ⊎_elim, IsTrue, refl, sym, ◌∙◌}
 use Rattle.std.proofs.lemmas.Bool.Decides.{Decides-eqb}
 use Rattle.std.proofs.lemmas.List.Folds.{list_any-append}
 use Rattle.hr_engine.specs.Lists.{has, once, is_empty, is_ascending}
-use Rattle.hr_engine.specs.Waits.{is_chain, Leads, is_list_of_running, IsSoundBlocked}
+use Rattle.hr_engine.specs.Waits.{Leads, is_list_of_running, IsSoundBlocked}
 use Rattle.hr_history.specs.Evidence.{reached, is_sound_blocked}
 use Rattle.hr_history.proofs.StepLemmas.{both}
 
@@ -45,9 +44,9 @@ module _ (waits : ℕ → List ℕ) where
   in_flat [] u h = cc
   in_flat (t ∷ ts) u h =
       ⊎_elim
-        (λ (e : has (waits t) u ≡ true). record { one = t; listed = or_first (t == t) (has ts t) ((Decides-eqb t t).1 refl); waits_for = e })
-        (λ (e : has (flat_map waits ts) u ≡ true). let w = in_flat ts u e in record { one = w.one; listed = or_second (t == w.one) (has ts w.one) w.listed; waits_for = w.waits_for })
-        (or_split (has (waits t) u) (has (flat_map waits ts) u) (sym (list_any-append (λ v. v == u) (waits t) (flat_map waits ts)) ∙ h))
+      (λ (e : has (waits t) u ≡ true). record { one = t; listed = or_first (t == t) (has ts t) ((Decides-eqb t t).1 refl); waits_for = e })
+      (λ (e : has (flat_map waits ts) u ≡ true). let w = in_flat ts u e in record { one = w.one; listed = or_second (t == w.one) (has ts w.one) w.listed; waits_for = w.waits_for })
+      (or_split (has (waits t) u) (has (flat_map waits ts) u) (sym (list_any-append (λ v. v == u) (waits t) (flat_map waits ts)) ∙ h))
 
   -- a chain of waits leads from one of the list to u
   record From (ts : List ℕ) (u : ℕ) : Type 0 where
@@ -72,7 +71,7 @@ module _ (waits : ℕ → List ℕ) where
   pub in_next : (ts : List ℕ) (u : ℕ) → has (once (ts ++ flat_map waits ts)) u ≡ true → (has ts u ≡ true) ⊎ Waiter ts u
   in_next ts u h =
       ⊎_elim (λ (e : has ts u ≡ true). inl e) (λ (e : has (flat_map waits ts) u ≡ true). inr (in_flat ts u e))
-        (or_split (has ts u) (has (flat_map waits ts) u) (sym (list_any-append (λ v. v == u) ts (flat_map waits ts)) ∙ in_once (ts ++ flat_map waits ts) u h))
+      (or_split (has ts u) (has (flat_map waits ts) u) (sym (list_any-append (λ v. v == u) ts (flat_map waits ts)) ∙ in_once (ts ++ flat_map waits ts) u h))
 
   from_next : (ts : List ℕ) (v u : ℕ) → Leads waits v u → (has ts v ≡ true) ⊎ Waiter ts v → From ts u
   from_next ts v u l = ⊎_elim (λ (e : has ts v ≡ true). record { one = v; listed = e; leads = l }) (λ (w : Waiter ts v). record { one = w.one; listed = w.listed; leads = by_more w.one v u w.waits_for l })
@@ -82,9 +81,9 @@ module _ (waits : ℕ → List ℕ) where
   reached_leads (suc n) ts u h =
       let next = once (ts ++ flat_map waits ts) in
       ⊎_elim
-        (λ (e : has next u ≡ true). ⊎_elim (λ (d : has ts u ≡ true). inl d) (λ (w : Waiter ts u). inr record { one = w.one; listed = w.listed; leads = by_one w.one u w.waits_for }) (in_next ts u e))
-        (λ (l : From next u). inr (from_next ts l.one u l.leads (in_next ts l.one l.listed)))
-        (reached_leads n next u h)
+      (λ (e : has next u ≡ true). ⊎_elim (λ (d : has ts u ≡ true). inl d) (λ (w : Waiter ts u). inr record { one = w.one; listed = w.listed; leads = by_one w.one u w.waits_for }) (in_next ts u e))
+      (λ (l : From next u). inr (from_next ts l.one u l.leads (in_next ts l.one l.listed)))
+      (reached_leads n next u h)
 
   -- no chain leads to the asker, so it isn't reached
   not_reached : (b : Bool) (running : ℕ → Bool) (n asker : ℕ) (named : List ℕ) → has (reached waits n named) asker ≡ b → has named asker ≡ false → IsSoundBlocked running waits asker named → not b ≡ true
@@ -92,8 +91,8 @@ module _ (waits : ℕ → List ℕ) where
   not_reached true running n asker named e other sound =
       absurd (⊎_elim (λ (d : has named asker ≡ true). no_both d) (λ (l : From named asker). sound.no_cycle l.one l.listed l.leads) (reached_leads n named asker e))
     where
-    no_both : has named asker ≡ true → ⊥
-    no_both d = cc (sym d ∙ other)
+      no_both : has named asker ≡ true → ⊥
+      no_both d = cc (sym d ∙ other)
 
   not_false : (b : Bool) → not b ≡ true → b ≡ false
   not_false true e = cc

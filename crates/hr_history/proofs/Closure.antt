@@ -1,6 +1,5 @@
 -- Enough steps reach all that any chain of waits does.
-use Rattle.std.proofs.Common.{◌≡◌, ℕ, zero, suc, ◌<◌, ◌≤◌, Bool, true, false, not, ◌&&◌, ◌||◌, ◌==◌, cond, List, [], ◌∷◌, ◌++◌, filter, flat_map, length, ◌⊎◌, inl, inr, ⊎_elim, IsTrue, refl, ap, sym, subst, ◌∙◌, arith}
-use Rattle.std.specs.List.{list_any}
+use Rattle.std.proofs.Common.{◌≡◌, ℕ, zero, suc, ◌<◌, ◌≤◌, Bool, true, false, not, ◌||◌, ◌==◌, cond, List, [], ◌∷◌, ◌++◌, filter, flat_map, length, ◌⊎◌, inl, inr, ⊎_elim, IsTrue, refl, ap, sym, ◌∙◌, arith}
 use Rattle.std.proofs.lemmas.Bool.Decides.{Decides-eqb}
 use Rattle.std.proofs.lemmas.List.Folds.{list_any-append}
 use Rattle.hr_engine.specs.Lists.{has, once}
@@ -16,8 +15,8 @@ kept_head true p x u xs e passes more h =
 kept_head false p x u xs e passes more h =
     ⊎_elim (λ (d : (x == u) ≡ true). absurd (no_both (sym (ap p ((Decides-eqb x u).0 d) ∙ passes) ∙ e))) (λ (d : has xs u ≡ true). more d) (or_split (x == u) (has xs u) h)
   where
-  no_both : true ≡ false → ⊥
-  no_both q = cc q
+    no_both : true ≡ false → ⊥
+    no_both q = cc q
 
 kept : (p : ℕ → Bool) (u : ℕ) (xs : List ℕ) → p u ≡ true → has xs u ≡ true → has (filter p xs) u ≡ true
 kept p u [] passes h = h
@@ -27,9 +26,9 @@ once_head : (b : Bool) (x u : ℕ) (xs : List ℕ) → (x == u) ≡ b → (has x
 once_head true x u xs e more h = refl
 once_head false x u xs e more h = kept (λ v. not (v == x)) u (once xs) (turned (u == x) refl) (more h)
   where
-  turned : (c : Bool) → (u == x) ≡ c → not (u == x) ≡ true
-  turned true d = cc (sym ((Decides-eqb x u).1 (sym ((Decides-eqb u x).0 d))) ∙ e)
-  turned false d = ap not d
+    turned : (c : Bool) → (u == x) ≡ c → not (u == x) ≡ true
+    turned true d = cc (sym ((Decides-eqb x u).1 (sym ((Decides-eqb u x).0 d))) ∙ e)
+    turned false d = ap not d
 
 kept_once : (xs : List ℕ) (u : ℕ) → has xs u ≡ true → has (once xs) u ≡ true
 kept_once [] u h = h
@@ -62,14 +61,14 @@ module _ (p q : ℕ → Bool) (mono : (u : ℕ) → p u ≡ true → q u ≡ tru
       let le = it.no_more in
       (omega (arith, le), ⊎_elim (λ (s : SameOn p q us). inl (same_more p q u us (λ x. absurd (no_both (sym x ∙ d))) s)) (λ (l : missing q us < missing p us). inr (omega (arith, l))) it.same_or_fewer)
     where
-    no_both : true ≡ false → ⊥
-    no_both x = cc x
+      no_both : true ≡ false → ⊥
+      no_both x = cc x
 
   compare : (us : List ℕ) → Compared p q us
   compare [] = record { no_more = omega arith; same_or_fewer = inl (λ v h k. none h) }
     where
-    none : {X : Type 0} → false ≡ true → X
-    none h = cc h
+      none : {X : Type 0} → false ≡ true → X
+      none h = cc h
   compare (u ∷ us) = let it = compare_head (p u) (q u) u us refl refl (compare us) in record { no_more = it.0; same_or_fewer = it.1 }
 
 none_missing_head : (b : Bool) (p : ℕ → Bool) (u v : ℕ) (us : List ℕ) → p u ≡ b → cond b (missing p us) (suc (missing p us)) ≤ zero → (missing p us ≤ zero → has us v ≡ true → p v ≡ true) → ((u == v) || has us v) ≡ true → p v ≡ true
@@ -85,9 +84,9 @@ missing_at_most : (p : ℕ → Bool) (us : List ℕ) → missing p us ≤ length
 missing_at_most p [] = omega arith
 missing_at_most p (u ∷ us) = by_test (p u) (missing_at_most p us)
   where
-  by_test : (b : Bool) → missing p us ≤ length us → cond b (missing p us) (suc (missing p us)) ≤ suc (length us)
-  by_test true le = omega (arith, le)
-  by_test false le = omega (arith, le)
+    by_test : (b : Bool) → missing p us ≤ length us → cond b (missing p us) (suc (missing p us)) ≤ suc (length us)
+    by_test true le = omega (arith, le)
+    by_test false le = omega (arith, le)
 
 -- only those of `us` wait
 module _ (waits : ℕ → List ℕ) (us : List ℕ) (only : (u : ℕ) → has us u ≡ false → waits u ≡ []) where
@@ -102,7 +101,7 @@ module _ (waits : ℕ → List ℕ) (us : List ℕ) (only : (u : ℕ) → has us
   flat_has (t ∷ ts) x y h k =
       list_any-append (λ v. v == y) (waits t) (flat_map waits ts)
       ∙ ⊎_elim (λ (d : (t == x) ≡ true). or_first (has (waits t) y) (has (flat_map waits ts) y) (ap (λ z. has (waits z) y) ((Decides-eqb t x).0 d) ∙ k))
-          (λ (d : has ts x ≡ true). or_second (has (waits t) y) (has (flat_map waits ts) y) (flat_has ts x y d k)) (or_split (t == x) (has ts x) h)
+      (λ (d : has ts x ≡ true). or_second (has (waits t) y) (has (flat_map waits ts) y) (flat_has ts x y d k)) (or_split (t == x) (has ts x) h)
 
   into_next : (ts : List ℕ) (x y : ℕ) → has ts x ≡ true → has (waits x) y ≡ true → has (next ts) y ≡ true
   into_next ts x y h k = kept_once (ts ++ flat_map waits ts) y (list_any-append (λ v. v == y) ts (flat_map waits ts) ∙ or_second (has ts y) (has (flat_map waits ts) y) (flat_has ts x y h k))
@@ -132,8 +131,8 @@ module _ (waits : ℕ → List ℕ) (us : List ℕ) (only : (u : ℕ) → has us
   closes zero ts le = closed_where ts (λ v h k. none_missing (has ts) v us le h)
   closes (suc n) ts le =
       ⊎_elim (λ (same : SameOn (has ts) (has (next ts)) us). closed_reached (suc n) (next ts) (closed_where ts same))
-        (λ (fewer : missing (has (next ts)) us < missing (has ts) us). closes n (next ts) (omega (arith, le, fewer)))
-        ((compare (has ts) (has (next ts)) (λ u h. stays_next ts u h) us).same_or_fewer)
+      (λ (fewer : missing (has (next ts)) us < missing (has ts) us). closes n (next ts) (omega (arith, le, fewer)))
+      ((compare (has ts) (has (next ts)) (λ u h. stays_next ts u h) us).same_or_fewer)
 
   stays_reached : (n : ℕ) (ts : List ℕ) (u : ℕ) → has ts u ≡ true → has (reached waits n ts) u ≡ true
   stays_reached zero ts u h = h
@@ -160,5 +159,5 @@ module _ (waits : ℕ → List ℕ) (us : List ℕ) (only : (u : ℕ) → has us
         no_cycle = λ t h leads. none (sym (ap not (all_reached n named t asker le h leads)) ∙ parts.1);
       }
     where
-    none : false ≡ true → ⊥
-    none e = cc e
+      none : false ≡ true → ⊥
+      none e = cc e

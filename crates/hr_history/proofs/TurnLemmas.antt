@@ -1,5 +1,5 @@
 -- A history is faithful exactly where it is made of turns.
-use Rattle.std.proofs.Common.{◌≡◌, ℕ, Bool, true, false, ◌&&◌, ◌==◌, Option, Some, None, is_none, option_and_then, map, List, [], ◌∷◌, ◌++◌, IsTrue, ◌↔◌, refl, ap, sym, ◌∙◌, subst}
+use Rattle.std.proofs.Common.{◌≡◌, ℕ, Bool, true, false, ◌&&◌, Option, Some, None, is_none, option_and_then, map, List, [], ◌∷◌, ◌++◌, IsTrue, ◌↔◌, refl, ap, sym, ◌∙◌, subst}
 use Rattle.std.proofs.lemmas.Bool.Decides.{Decides-eqb}
 use Rattle.hr_history.specs.declared.entry.Entry.{Entry}
 use Rattle.hr_history.specs.declared.entry.Event.{Event}
@@ -107,7 +107,7 @@ begun_more : (f s : ℕ) (more : List Entry) (call : Entry) (before : History) �
 begun_more f s [] call before begun follow = begun
 begun_more f s (e ∷ more) call before begun follow =
     and_both (is_begun f s (more ++ call ∷ before)) _ (begun_more f s more call before begun follow.2)
-      (due_next f s (due f (more ++ call ∷ before)) e (more ++ call ∷ before) follow.0 (caller_of f more call before e.caller follow.2 follow.1))
+    (due_next f s (due f (more ++ call ∷ before)) e (more ++ call ∷ before) follow.0 (caller_of f more call before e.caller follow.2 follow.1))
 
 none_due : (f s : ℕ) (turns : List OneTurn) → AreTurns f s turns → due f (history_of_turns turns) ≡ None
 none_due f s [] are = nothing_due f

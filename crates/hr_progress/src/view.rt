@@ -1,8 +1,12 @@
-ghost use Rattle.std.specs.Prelude.{◌≡◌, length};
+ghost use Rattle.std.specs.Prelude.{◌≡◌, ◌≤◌, None, [], length, map, IfOk};
+ghost use Rattle.std.specs.List.{range_with_len};
+ghost use Rattle.hr_history.specs.View.{view_of, progress_in};
+ghost use Rattle.hr_progress.specs.Seen.{seen_replicas};
 
 use hr_engine::{RunReply, TxnId};
 use hr_history::{Fresh, Job, Last, Phase};
 use indexmap::IndexMap;
+use std::alloc::{AllocError, Global};
 use std::marker::Model;
 
 /// All that the shepherd's rules look at, but the turn: the log, the transactions, the replicas, and the primary.
@@ -85,6 +89,23 @@ pub struct Told {
 }
 
 impl View {
+    /// The view before anything happened, of `2f + 1` replicas.
+    pub fn new(alloc: Global, f: u32) -> Result<View, AllocError>
+        requires few { f ≤ 3 }
+        ensures { IfOk result (λ view. view ≡ view_of f []) }
+    {
+        Ok(View {
+            f,
+            log: Vec::new(alloc),
+            txns: Vec::new(alloc),
+            replicas: idle_replicas(alloc, 2 * f + 1)?,
+            primary: Some(0),
+            search_after: 0,
+            replies: Vec::new(alloc),
+            fresh: None,
+        })
+    }
+
     /// How many transactions are decided.
     pub fn commits(&self) -> u64
         ensures { result ≡ length self.now.log }
@@ -97,5 +118,37 @@ impl View {
         ensures { result ≡ self.now.primary }
     {
         self.primary
+    }
+}
+
+// So many replicas to which nothing has happened.
+fn idle_replicas(alloc: Global, count: u32) -> Result<Vec<Progress>, AllocError>
+    ensures { IfOk result (λ replicas. seen_replicas [] None 0 replicas.items ≡ map (progress_in []) (range_with_len 0 count)) }
+{
+    let mut replicas = Vec::new(alloc);
+    for _ in 0..count {
+        replicas.push(Progress {
+            lost: false,
+            convicted: false,
+            position: 0,
+            doubt: false,
+            out: None,
+            attempts: IndexMap::new(alloc),
+        })?;
+    }
+    Ok(replicas)
+}
+
+#[cfg(test)]
+mod tests {
+    use super::View;
+    use std::test::Fail;
+
+    #[test]
+    fn a_new_view(rt: HostRuntime) -> Result<(), Fail> {
+        let view = View::new(rt.alloc(), 1)?;
+        assert_eq!(rt; view.commits(), 0);
+        assert_eq!(rt; view.primary(), Some(0));
+        Ok(())
     }
 }
