@@ -1,9 +1,7 @@
 -- In a rigorous journal the attempts of any different transactions, running or not, can be played in any order.
-use Rattle.std.proofs.Common.{◌≡◌, ℕ, Bool, true, false, cond, not, ◌&&◌, IsTrue, List, [], ◌∷◌, map, refl, ap, subst, ◌∙◌, sym}
+use Rattle.std.proofs.Common.{◌≡◌, ℕ, Bool, true, false, cond, not, IsTrue, List, [], ◌∷◌, map, refl, ap, subst, sym}
 use Rattle.std.specs.List.{filter, list_all, AllZip}
 use Rattle.std.proofs.lemmas.Bool.{and_parts, and_from}
-use Rattle.hr_rel.specs.declared.answer.Answer.{Answer}
-use Rattle.hr_rel.specs.declared.stmt.Stmt.{Stmt}
 use Rattle.hr_rel.specs.Database.{Database}
 use Rattle.hr_rel.specs.Serial.{play, serial_answers}
 use Rattle.hr_rel.specs.SameAnswer.{SameAnswer}
