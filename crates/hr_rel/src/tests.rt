@@ -3,12 +3,23 @@ use super::*;
 use sqlite_items::Boxed;
 use std::alloc::{AllocError, Global};
 use std::fmt::Debug;
+use std::process::Abort;
 use std::test::Fail;
 
 const KEY: ColRef = ColRef {
     entry: 0,
     column: 0,
 };
+
+// A copy prints as what it copies, and not as nothing.
+fn is_copied<R: Abort, T: TryCopy + Debug>(rt: &R, alloc: Global, value: T) -> Result<(), Fail> {
+    let copy = value.try_copy(alloc)?;
+    let printed = format!(in alloc; "{value:?}")?;
+    let copied = format!(in alloc; "{copy:?}")?;
+    assert_eq!(rt; copied.as_str(), printed.as_str());
+    assert!(rt; !printed.is_empty());
+    Ok(())
+}
 
 fn one<T: Drop>(alloc: Global, item: T) -> Result<Seq<T>, AllocError> {
     let mut all = Seq::new(alloc);
@@ -17,87 +28,98 @@ fn one<T: Drop>(alloc: Global, item: T) -> Result<Seq<T>, AllocError> {
 }
 
 fn number(alloc: Global, n: i64) -> Result<Boxed<Expr>, AllocError> {
-    Ok(Boxed::new(alloc, Expr::Lit(Value::Int(n)))?)
-}
-
-fn exprs(alloc: Global) -> Result<Expr, AllocError> {
-    let sum = Boxed::new(alloc, Expr::Add(number(alloc, 1)?, number(alloc, 2)?))?;
-    let difference = Boxed::new(alloc, Expr::Sub(sum, Boxed::new(alloc, Expr::Col(KEY))?))?;
-    Ok(Expr::Mul(difference, number(alloc, 3)?))
-}
-
-fn preds(alloc: Global) -> Result<Pred, AllocError> {
-    let less = Pred::Compare(Op::Lt, Operand::Col(KEY), Operand::Lit(Value::Null));
-    let null = Pred::IsNull(Operand::Col(KEY));
-    let both = Pred::And(Boxed::new(alloc, less)?, Boxed::new(alloc, null)?);
-    let neither = Pred::Not(Boxed::new(alloc, both)?);
-    let more = Pred::Compare(Op::Ge, Operand::Lit(Value::Int(-1)), Operand::Col(KEY));
-    Ok(Pred::Or(Boxed::new(alloc, neither)?, Boxed::new(alloc, more)?))
-}
-
-fn select(alloc: Global) -> Result<Stmt, AllocError> {
-    let mut items = one(alloc, Item::Plain(exprs(alloc)?))?;
-    items.push(Item::CountAll)?;
-    items.push(Item::Count(KEY))?;
-    items.push(Item::Sum(KEY))?;
-    items.push(Item::Min(KEY))?;
-    items.push(Item::Max(KEY))?;
-    Ok(Stmt::Select(SelectStmt {
-        tables: one(alloc, 1)?,
-        on: Some(preds(alloc)?),
-        filter: None,
-        items,
-        groups: one(alloc, KEY)?,
-    }))
-}
-
-fn insert(alloc: Global, text: Name) -> Result<Stmt, AllocError> {
-    let mut row = one(alloc, Value::Int(7))?;
-    row.push(Value::Null)?;
-    row.push(Value::Text(text))?;
-    Ok(Stmt::Insert(InsertStmt {
-        table: 2,
-        rows: one(alloc, row)?,
-    }))
-}
-
-fn update(alloc: Global) -> Result<Stmt, AllocError> {
-    let set = Set {
-        column: 1,
-        value: exprs(alloc)?,
-    };
-    Ok(Stmt::Update(UpdateStmt {
-        table: 3,
-        sets: one(alloc, set)?,
-        filter: Some(preds(alloc)?),
-    }))
-}
-
-// Whether a copy prints as what it copies, and not as nothing.
-fn is_copied<T: TryCopy + Debug>(alloc: Global, value: &T) -> Result<bool, AllocError> {
-    let copy = value.try_copy(alloc)?;
-    let printed = format!(in alloc; "{value:?}")?;
-    let copied = format!(in alloc; "{copy:?}")?;
-    Ok(printed.as_str() == copied.as_str() && !printed.is_empty())
+    Boxed::new(alloc, Expr::Lit(Value::Int(n)))
 }
 
 #[test]
-fn equal_copies(rt: HostRuntime) -> Result<(), Fail> {
+fn expressions(rt: HostRuntime) -> Result<(), Fail> {
     let alloc = rt.alloc();
-    let Some(text) = Name::new(b"it's") else {
-        unreachable!()
+    is_copied(&rt, alloc, Expr::Col(KEY))?;
+    let sum = Expr::Add(number(alloc, 1)?, number(alloc, 2)?);
+    is_copied(&rt, alloc, sum)?;
+    let difference = Expr::Sub(number(alloc, 1)?, number(alloc, 2)?);
+    is_copied(&rt, alloc, difference)?;
+    let product = Expr::Mul(number(alloc, 1)?, number(alloc, 2)?);
+    is_copied(&rt, alloc, product)?;
+    Ok(())
+}
+
+fn null(alloc: Global) -> Result<Boxed<Pred>, AllocError> {
+    Boxed::new(alloc, Pred::IsNull(Operand::Col(KEY)))
+}
+
+#[test]
+fn conditions(rt: HostRuntime) -> Result<(), Fail> {
+    let alloc = rt.alloc();
+    let less = Pred::Compare(Op::Lt, Operand::Col(KEY), Operand::Lit(Value::Null));
+    is_copied(&rt, alloc, less)?;
+    is_copied(&rt, alloc, Pred::Not(null(alloc)?))?;
+    let both = Pred::And(null(alloc)?, null(alloc)?);
+    is_copied(&rt, alloc, both)?;
+    let either = Pred::Or(null(alloc)?, null(alloc)?);
+    is_copied(&rt, alloc, either)?;
+    Ok(())
+}
+
+#[test]
+fn selects(rt: HostRuntime) -> Result<(), Fail> {
+    let alloc = rt.alloc();
+    for item in [
+        Item::CountAll,
+        Item::Count(KEY),
+        Item::Sum(KEY),
+        Item::Min(KEY),
+        Item::Max(KEY),
+    ] {
+        is_copied(&rt, alloc, item)?;
+    }
+    let select = Stmt::Select(SelectStmt {
+        tables: one(alloc, 1)?,
+        on: Some(Pred::IsNull(Operand::Col(KEY))),
+        filter: None,
+        items: one(alloc, Item::Plain(Expr::Col(KEY)))?,
+        groups: one(alloc, KEY)?,
+    });
+    is_copied(&rt, alloc, select)?;
+    Ok(())
+}
+
+#[test]
+fn changes(rt: HostRuntime) -> Result<(), Fail> {
+    let alloc = rt.alloc();
+    let set = Set {
+        column: 1,
+        value: Expr::Col(KEY),
     };
+    let update = Stmt::Update(UpdateStmt {
+        table: 3,
+        sets: one(alloc, set)?,
+        filter: None,
+    });
+    is_copied(&rt, alloc, update)?;
     let delete = Stmt::Delete(DeleteStmt {
         table: 4,
         filter: None,
     });
-    for stmt in [select(alloc)?, insert(alloc, text)?, update(alloc)?, delete] {
-        assert!(rt; is_copied(alloc, &stmt)?);
-    }
+    is_copied(&rt, alloc, delete)?;
+    let insert = Stmt::Insert(InsertStmt {
+        table: 2,
+        rows: one(alloc, one(alloc, Value::Null)?)?,
+    });
+    is_copied(&rt, alloc, insert)?;
+    Ok(())
+}
+
+#[test]
+fn answers(rt: HostRuntime) -> Result<(), Fail> {
+    let alloc = rt.alloc();
     let rows = one(alloc, one(alloc, Value::Int(1))?)?;
-    let overflow = Answer::Failed(RunError::Overflow);
-    for answer in [Answer::Rows(rows), Answer::Count(3), overflow] {
-        assert!(rt; is_copied(alloc, &answer)?);
-    }
+    is_copied(&rt, alloc, Answer::Rows(rows))?;
+    is_copied(&rt, alloc, Answer::Count(3))?;
+    is_copied(&rt, alloc, Answer::Failed(RunError::Overflow))?;
+    let Some(text) = Name::new(b"it's") else {
+        return Ok(());
+    };
+    is_copied(&rt, alloc, Value::Text(text))?;
     Ok(())
 }
