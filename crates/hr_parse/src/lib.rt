@@ -9,6 +9,7 @@ mod lexeme;
 mod list;
 mod name;
 mod operand;
+mod print;
 mod select;
 mod statement;
 mod texts;
