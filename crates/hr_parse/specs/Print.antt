@@ -41,10 +41,17 @@ abbrev pub joined : List (List ℕ) → List ℕ
 joined [] = []
 joined (x ∷ xs) = x ++ more xs
 
+abbrev pub opening : Bool → List ℕ
+opening true = codes "("
+opening false = []
+
+abbrev pub closing : Bool → List ℕ
+closing true = codes ")"
+closing false = []
+
 -- within parentheses, where the test says so
 abbrev pub enclosed : Bool → List ℕ → List ℕ
-enclosed true text = codes "(" ++ text ++ codes ")"
-enclosed false text = text
+enclosed test text = opening test ++ text ++ closing test
 
 -- ---- columns and literals
 

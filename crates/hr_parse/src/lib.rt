@@ -9,7 +9,8 @@ mod lexeme;
 mod list;
 mod name;
 mod operand;
-mod print;
+mod parts;
+mod printing;
 mod select;
 mod statement;
 mod texts;
@@ -21,3 +22,7 @@ pub use ast::{
     Items, JoinAst, LitAst, LiteralAst, NameAt, OperandAst, SelectAst, SetAst, TupleAst, UpdateAst,
 };
 pub use texts::{ParseError, parse};
+pub use printing::print;
+
+#[cfg(test)]
+mod tests;
