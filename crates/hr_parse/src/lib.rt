@@ -21,8 +21,8 @@ pub use ast::{
     AggWord, Ast, ColumnAst, CondAst, DeleteAst, EntryAst, ExprAst, ExprKind, InsertAst, ItemAst,
     Items, JoinAst, LitAst, LiteralAst, NameAt, OperandAst, SelectAst, SetAst, TupleAst, UpdateAst,
 };
-pub use texts::{ParseError, parse};
 pub use printing::print;
+pub use texts::{ParseError, parse};
 
 #[cfg(test)]
 mod tests;

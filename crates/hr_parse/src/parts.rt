@@ -3,9 +3,7 @@
 ghost use Rattle.std.specs.Prelude.{◌≡◌, ◌∷◌, [], ◌++◌, map, codes, OnOk};
 ghost use Rattle.hr_parse.specs.Print as spec;
 
-use crate::ast::{
-    ColumnAst, CondAst, ExprAst, ExprKind, LitAst, LiteralAst, NameAt, OperandAst,
-};
+use crate::ast::{ColumnAst, CondAst, ExprAst, ExprKind, LitAst, LiteralAst, NameAt, OperandAst};
 use hr_rel::Op;
 use itoa::Buffer;
 use std::alloc::AllocError;
@@ -167,7 +165,11 @@ fn close(out: &mut Vec<u8>, needed: bool) -> Result<(), AllocError>
 fn is_text(negated: bool) -> &'static [u8]
     ensures { result.now ≡ spec.is_text negated }
 {
-    if negated { b" IS NOT NULL" } else { b" IS NULL" }
+    if negated {
+        b" IS NOT NULL"
+    } else {
+        b" IS NULL"
+    }
 }
 
 fn between_text(negated: bool) -> &'static [u8]

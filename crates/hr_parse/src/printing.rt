@@ -31,7 +31,9 @@ impl Shown for ItemAst {
             ItemAst::Plain(e) => expr(out, e, 0),
             ItemAst::CountAll(_) => put(out, b"COUNT(*)"),
             ItemAst::Aggregate {
-                word, column: of, ..
+                word,
+                column: of,
+                ..
             } => {
                 put(out, word_text(*word))?;
                 column(out, of)?;

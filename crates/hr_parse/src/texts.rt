@@ -69,8 +69,7 @@ impl From<AllocError> for ParseError {
 /// No words are two statements.
 pub fn one_tree()
     ensures { (words : List Lexeme) (a b : Ast) → IsStatement words a → IsStatement words b → a ≡ b }
-{
-}
+{}
 
 /// What is told of a text whose words are read so, with the first error of its tokens and its length.
 fn told(
