@@ -263,3 +263,37 @@ fn lexical_errors(rt: HostRuntime) -> Result<(), Fail> {
     }
     Ok(())
 }
+
+/// The text with the most nested parentheses is read within the ordinary stack.
+#[test]
+fn deepest_text(rt: HostRuntime) -> Result<(), Fail> {
+    let mut text = String::from_str(rt.alloc(), "UPDATE t SET a=")?;
+    for _ in 0..504 {
+        text.push_str("(")?;
+    }
+    text.push_str("1")?;
+    for _ in 0..504 {
+        text.push_str(")")?;
+    }
+    let ast = parse(rt.alloc(), text.as_str())?;
+    let printed = print(rt.alloc(), &ast)?;
+    assert_eq!(rt; printed.as_slice(), b"UPDATE t SET a = 1".as_slice());
+    Ok(())
+}
+
+/// The condition with the most nested rules is read within the ordinary stack.
+#[test]
+fn deepest_condition(rt: HostRuntime) -> Result<(), Fail> {
+    let mut text = String::from_str(rt.alloc(), "DELETE FROM t WHERE ")?;
+    for _ in 0..500 {
+        text.push_str("(")?;
+    }
+    text.push_str("a=1")?;
+    for _ in 0..500 {
+        text.push_str(")")?;
+    }
+    let ast = parse(rt.alloc(), text.as_str())?;
+    let printed = print(rt.alloc(), &ast)?;
+    assert_eq!(rt; printed.as_slice(), b"DELETE FROM t WHERE a = 1".as_slice());
+    Ok(())
+}
