@@ -176,3 +176,10 @@ no_other n s t a b fits e l = (ok_parts a b t [] (sym e ∙ is_read n s b l fits
 
 pub not_refused : (n : ℕ) (s t : List Lexeme) (b : Ast) → Fits 6 n (length s) → statement n s ≡ Err t → IsStatement s b → ⊥
 not_refused n s t b fits e l = let z = is_read n s b l fits in absurd (cc)
+
+-- ---- no words are two statements
+
+pub one_statement : (s : List Lexeme) (a b : Ast) → IsStatement s a → IsStatement s b → a ≡ b
+one_statement s a b k l =
+    let n : ℕ = 4 * length s + 6 in
+    no_other n s [] a b (omega arith) (is_read n s a k (omega arith)) l

@@ -11,24 +11,33 @@ use crate::words::{Stop, Words, deeper};
 use sqlite_items::Boxed;
 use std::alloc::{AllocError, Global};
 
-fn either(alloc: Global, left: CondAst, right: CondAst) -> Result<CondAst, AllocError>
+#[inline(never)]
+fn either(
+    alloc: Global,
+    left: Boxed<CondAst>,
+    right: Boxed<CondAst>,
+) -> Result<Boxed<CondAst>, AllocError>
     ensures { IfOk result (λ c. c ≡ CondAst.Or left right) }
 {
-    let left = Boxed::new(alloc, left)?;
-    Ok(CondAst::Or(left, Boxed::new(alloc, right)?))
+    Boxed::new(alloc, CondAst::Or(left, right))
 }
 
-fn both(alloc: Global, left: CondAst, right: CondAst) -> Result<CondAst, AllocError>
+#[inline(never)]
+fn both(
+    alloc: Global,
+    left: Boxed<CondAst>,
+    right: Boxed<CondAst>,
+) -> Result<Boxed<CondAst>, AllocError>
     ensures { IfOk result (λ c. c ≡ CondAst.And left right) }
 {
-    let left = Boxed::new(alloc, left)?;
-    Ok(CondAst::And(left, Boxed::new(alloc, right)?))
+    Boxed::new(alloc, CondAst::And(left, right))
 }
 
-fn negation(alloc: Global, inner: CondAst) -> Result<CondAst, AllocError>
+#[inline(never)]
+fn negation(alloc: Global, inner: Boxed<CondAst>) -> Result<Boxed<CondAst>, AllocError>
     ensures { IfOk result (λ c. c ≡ CondAst.Not inner) }
 {
-    Ok(CondAst::Not(Boxed::new(alloc, inner)?))
+    Boxed::new(alloc, CondAst::Not(inner))
 }
 
 impl<'a> Words<'a> {
@@ -127,10 +136,19 @@ impl<'a> Words<'a> {
         self.check(alloc, depth, operand)
     }
 
+    // The rules below hold one another, up to five hundred deep: what they answer is small, so that their frames are.
+    #[inline(never)]
+    fn boxed_test(&mut self, alloc: Global, depth: usize) -> Result<Boxed<CondAst>, Stop>
+        ensures { Reads (spec.test depth self.old.rest.now) result self.new.rest.now }
+    {
+        let test = self.test(alloc, depth)?;
+        Ok(Boxed::new(alloc, test)?)
+    }
+
     /// `neg = NOT neg | "(" cond ")" | operand check`
     #[cycle(cond)]
     #[tactic(auto, unfolding(crate::specs::Reading::neg))]
-    fn neg(&mut self, alloc: Global, depth: usize) -> Result<CondAst, Stop>
+    fn neg(&mut self, alloc: Global, depth: usize) -> Result<Boxed<CondAst>, Stop>
         ensures { Reads (spec.neg depth self.old.rest.now) result self.new.rest.now }
     {
         let depth = deeper(depth)?;
@@ -138,18 +156,18 @@ impl<'a> Words<'a> {
             let inner = self.neg(alloc, depth)?;
             Ok(negation(alloc, inner)?)
         } else if self.eat(Mark::LeftParen) {
-            let inner = self.cond(alloc, depth)?;
+            let inner = self.boxed_cond(alloc, depth)?;
             self.expect(Mark::RightParen)?;
             Ok(inner)
         } else {
-            self.test(alloc, depth)
+            self.boxed_test(alloc, depth)
         }
     }
 
     /// `conj = neg { AND neg }`
     #[cycle(cond)]
     #[tactic(auto, unfolding(crate::specs::Reading::neg))]
-    fn conj(&mut self, alloc: Global, depth: usize) -> Result<CondAst, Stop>
+    fn conj(&mut self, alloc: Global, depth: usize) -> Result<Boxed<CondAst>, Stop>
         ensures { Reads (spec.conj depth self.old.rest.now) result self.new.rest.now }
     {
         let depth = deeper(depth)?;
@@ -160,7 +178,12 @@ impl<'a> Words<'a> {
     /// `{ AND neg }`, behind what was read so far.
     #[cycle(cond)]
     #[tactic(auto, unfolding(crate::specs::Reading::neg))]
-    fn conj_behind(&mut self, alloc: Global, depth: usize, left: CondAst) -> Result<CondAst, Stop>
+    fn conj_behind(
+        &mut self,
+        alloc: Global,
+        depth: usize,
+        left: Boxed<CondAst>,
+    ) -> Result<Boxed<CondAst>, Stop>
         ensures { Reads (spec.conj_behind depth left self.old.rest.now) result self.new.rest.now }
     {
         let depth = deeper(depth)?;
@@ -176,7 +199,7 @@ impl<'a> Words<'a> {
     /// `cond = conj { OR conj }`
     #[cycle(cond)]
     #[tactic(auto, unfolding(crate::specs::Reading::neg))]
-    pub fn cond(&mut self, alloc: Global, depth: usize) -> Result<CondAst, Stop>
+    fn boxed_cond(&mut self, alloc: Global, depth: usize) -> Result<Boxed<CondAst>, Stop>
         ensures { Reads (spec.cond depth self.old.rest.now) result self.new.rest.now }
     {
         let depth = deeper(depth)?;
@@ -187,7 +210,12 @@ impl<'a> Words<'a> {
     /// `{ OR conj }`, behind what was read so far.
     #[cycle(cond)]
     #[tactic(auto, unfolding(crate::specs::Reading::neg))]
-    fn cond_behind(&mut self, alloc: Global, depth: usize, left: CondAst) -> Result<CondAst, Stop>
+    fn cond_behind(
+        &mut self,
+        alloc: Global,
+        depth: usize,
+        left: Boxed<CondAst>,
+    ) -> Result<Boxed<CondAst>, Stop>
         ensures { Reads (spec.cond_behind depth left self.old.rest.now) result self.new.rest.now }
     {
         let depth = deeper(depth)?;
@@ -198,5 +226,12 @@ impl<'a> Words<'a> {
         } else {
             Ok(left)
         }
+    }
+
+    /// A condition.
+    pub fn cond(&mut self, alloc: Global, depth: usize) -> Result<CondAst, Stop>
+        ensures { Reads (spec.cond depth self.old.rest.now) result self.new.rest.now }
+    {
+        Ok(self.boxed_cond(alloc, depth)?.into_inner())
     }
 }

@@ -1,10 +1,11 @@
 //! Texts and words as statements.
 
-ghost use Rattle.std.specs.Prelude.{◌≡◌, ◌⊎◌, ◌≤◌, Ok, Err, length, IfOk, IfErr};
+ghost use Rattle.std.specs.Prelude.{◌≡◌, ◌⊎◌, ◌≤◌, List, Ok, Err, length, IfOk, IfErr};
 ghost use Rattle.hr_parse.specs.Grammar.{IsStatement};
 ghost use Rattle.hr_parse.specs.Parse as spec;
 ghost use Rattle.hr_parse.specs.Parse.{Refused, IsTextOf, TextRefused};
 ghost use Rattle.hr_parse.specs.declared.ast.Ast.{Ast};
+ghost use Rattle.hr_parse.specs.declared.word.Lexeme.{Lexeme};
 
 use crate::ast::Ast;
 use crate::lexeme::lexemes;
@@ -64,6 +65,11 @@ impl From<AllocError> for ParseError {
         ParseError::Memory
     }
 }
+
+/// No words are two statements.
+pub fn one_tree()
+    ensures { (words : List Lexeme) (a b : Ast) → IsStatement words a → IsStatement words b → a ≡ b }
+{}
 
 /// What is told of a text whose words are read so, with the first error of its tokens and its length.
 fn told(

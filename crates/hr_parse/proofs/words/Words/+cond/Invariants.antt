@@ -1,7 +1,7 @@
 use Rattle.hr_parse.proofs.words.Words.+cond.Given as goal
 
-abbrev pub decreases-cond : goal.decreases-cond
-decreases-cond l = l.depth
+abbrev pub decreases-boxed_cond : goal.decreases-boxed_cond
+decreases-boxed_cond l = l.depth
 
 abbrev pub decreases-cond_behind : goal.decreases-cond_behind
 decreases-cond_behind l = l.depth

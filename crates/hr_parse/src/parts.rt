@@ -1,0 +1,289 @@
+//! The texts of the parts that statements are made of.
+
+ghost use Rattle.std.specs.Prelude.{◌≡◌, ◌∷◌, [], ◌++◌, map, codes, OnOk};
+ghost use Rattle.hr_parse.specs.Print as spec;
+
+use crate::ast::{ColumnAst, CondAst, ExprAst, ExprKind, LitAst, LiteralAst, NameAt, OperandAst};
+use hr_rel::Op;
+use itoa::Buffer;
+use std::alloc::AllocError;
+
+pub fn put(out: &mut Vec<u8>, text: &[u8]) -> Result<(), AllocError>
+    ensures { OnOk result (out.new.items ≡ out.old.items ++ text.now) }
+{
+    out.extend_from_slice(text)
+}
+
+#[tactic(auto, using(crate::proofs::Appends::append_again))]
+pub fn column(out: &mut Vec<u8>, column: &ColumnAst) -> Result<(), AllocError>
+    ensures { OnOk result (out.new.items ≡ out.old.items ++ spec.column_text column.now) }
+{
+    put(out, column.first.name.bytes())?;
+    match &column.second {
+        Some(second) => {
+            put(out, b".")?;
+            put(out, second.name.bytes())
+        }
+        None => Ok(()),
+    }
+}
+
+/// A byte within quotes.
+fn quoted_byte(out: &mut Vec<u8>, b: u8) -> Result<(), AllocError>
+    ensures { OnOk result (out.new.items ≡ out.old.items ++ spec.doubled (b ∷ [])) }
+{
+    if b == b'\'' {
+        put(out, b"''")
+    } else {
+        Ok(out.push(b)?)
+    }
+}
+
+fn doubled(out: &mut Vec<u8>, mut text: &[u8]) -> Result<(), AllocError>
+    ensures { OnOk result (out.new.items ≡ out.old.items ++ spec.doubled text.entry.now) }
+{
+    while let [b, rest @ ..] = text {
+        quoted_byte(out, *b)?;
+        text = rest;
+    }
+    Ok(())
+}
+
+#[tactic(auto, using(crate::proofs::Appends::append_again))]
+fn literal(out: &mut Vec<u8>, literal: &LiteralAst) -> Result<(), AllocError>
+    ensures { OnOk result (out.new.items ≡ out.old.items ++ spec.literal_text literal.now) }
+{
+    match &literal.value {
+        LitAst::Null => put(out, b"NULL"),
+        LitAst::Int(n) => put(out, Buffer::new().format(*n).as_bytes()),
+        LitAst::Text(text) => {
+            put(out, b"'")?;
+            doubled(out, text.as_slice())?;
+            put(out, b"'")
+        }
+    }
+}
+
+#[tactic(auto, using(crate::proofs::Appends::append_again))]
+fn operand(out: &mut Vec<u8>, operand: &OperandAst) -> Result<(), AllocError>
+    ensures { OnOk result (out.new.items ≡ out.old.items ++ spec.operand_text operand.now) }
+{
+    match operand {
+        OperandAst::Column(c) => column(out, c),
+        OperandAst::Literal(l) => literal(out, l),
+    }
+}
+
+fn op_text(op: Op) -> &'static [u8]
+    ensures { result.now ≡ spec.op_text op }
+{
+    match op {
+        Op::Eq => b" = ",
+        Op::Ne => b" <> ",
+        Op::Lt => b" < ",
+        Op::Le => b" <= ",
+        Op::Gt => b" > ",
+        Op::Ge => b" >= ",
+    }
+}
+
+/// What is printed as a part of a list.
+pub trait Shown {
+    ghost use Rattle.std.specs.Prelude.{List, ℕ};
+
+    ghost text: { Self → List ℕ };
+
+    fn show(&self, out: &mut Vec<u8>) -> Result<(), AllocError>
+        ensures { OnOk result (out.new.items ≡ out.old.items ++ text self.now) };
+}
+
+/// The parts, each behind a comma.
+#[tactic(auto, using(crate::proofs::Appends::append_again))]
+fn more<T: Shown>(out: &mut Vec<u8>, parts: &[T]) -> Result<(), AllocError>
+    ensures { OnOk result (out.new.items ≡ out.old.items ++ spec.more (map T.text parts.now)) }
+{
+    match parts {
+        [part, rest @ ..] => {
+            put(out, b", ")?;
+            part.show(out)?;
+            more(out, rest)
+        }
+        [] => Ok(()),
+    }
+}
+
+/// The parts with commas between.
+#[tactic(auto, using(crate::proofs::Appends::append_again))]
+pub fn joined<T: Shown>(out: &mut Vec<u8>, parts: &[T]) -> Result<(), AllocError>
+    ensures { OnOk result (out.new.items ≡ out.old.items ++ spec.joined (map T.text parts.now)) }
+{
+    match parts {
+        [part, rest @ ..] => {
+            part.show(out)?;
+            more(out, rest)
+        }
+        [] => Ok(()),
+    }
+}
+
+impl Shown for LiteralAst {
+    ghost text = { spec.literal_text };
+
+    fn show(&self, out: &mut Vec<u8>) -> Result<(), AllocError> {
+        literal(out, self)
+    }
+}
+
+impl Shown for ColumnAst {
+    ghost text = { spec.column_text };
+
+    fn show(&self, out: &mut Vec<u8>) -> Result<(), AllocError> {
+        column(out, self)
+    }
+}
+
+impl Shown for NameAt {
+    ghost text = { spec.name_text };
+
+    fn show(&self, out: &mut Vec<u8>) -> Result<(), AllocError> {
+        put(out, self.name.bytes())
+    }
+}
+
+fn open(out: &mut Vec<u8>, needed: bool) -> Result<(), AllocError>
+    ensures { OnOk result (out.new.items ≡ out.old.items ++ spec.opening needed) }
+{
+    if needed { put(out, b"(") } else { Ok(()) }
+}
+
+fn close(out: &mut Vec<u8>, needed: bool) -> Result<(), AllocError>
+    ensures { OnOk result (out.new.items ≡ out.old.items ++ spec.closing needed) }
+{
+    if needed { put(out, b")") } else { Ok(()) }
+}
+
+fn is_text(negated: bool) -> &'static [u8]
+    ensures { result.now ≡ spec.is_text negated }
+{
+    if negated {
+        b" IS NOT NULL"
+    } else {
+        b" IS NULL"
+    }
+}
+
+fn between_text(negated: bool) -> &'static [u8]
+    ensures { result.now ≡ spec.between_text negated }
+{
+    if negated {
+        b" NOT BETWEEN "
+    } else {
+        b" BETWEEN "
+    }
+}
+
+fn in_text(negated: bool) -> &'static [u8]
+    ensures { result.now ≡ spec.in_text negated }
+{
+    if negated { b" NOT IN (" } else { b" IN (" }
+}
+
+/// `NOT` and what it negates.
+fn put_not(out: &mut Vec<u8>) -> Result<(), AllocError>
+    ensures { OnOk result (out.new.items ≡ out.old.items ++ codes "NOT ") }
+{
+    put(out, b"NOT ")
+}
+
+/// A condition that binds at least so tightly: 0 as OR, 1 as AND, 2 as NOT and tests.
+#[tactic(auto, using(crate::proofs::Appends::append_again))]
+pub fn cond(out: &mut Vec<u8>, whole: &CondAst, least: u8) -> Result<(), AllocError>
+    ensures { OnOk result (out.new.items ≡ out.old.items ++ spec.cond_text whole.now least) }
+{
+    match whole {
+        CondAst::Or(left, right) => {
+            open(out, 0 < least)?;
+            cond(out, left.get(), 0)?;
+            put(out, b" OR ")?;
+            cond(out, right.get(), 1)?;
+            close(out, 0 < least)
+        }
+        CondAst::And(left, right) => {
+            open(out, 1 < least)?;
+            cond(out, left.get(), 1)?;
+            put(out, b" AND ")?;
+            cond(out, right.get(), 2)?;
+            close(out, 1 < least)
+        }
+        CondAst::Not(inner) => {
+            put_not(out)?;
+            cond(out, inner.get(), 2)
+        }
+        CondAst::Compare(op, left, right) => {
+            operand(out, left)?;
+            put(out, op_text(*op))?;
+            operand(out, right)
+        }
+        CondAst::IsNull {
+            operand: of,
+            negated,
+        } => {
+            operand(out, of)?;
+            put(out, is_text(*negated))
+        }
+        CondAst::Between {
+            operand: of,
+            low,
+            high,
+            negated,
+        } => {
+            operand(out, of)?;
+            put(out, between_text(*negated))?;
+            operand(out, low)?;
+            put(out, b" AND ")?;
+            operand(out, high)
+        }
+        CondAst::Among {
+            operand: of,
+            list,
+            negated,
+        } => {
+            operand(out, of)?;
+            put(out, in_text(*negated))?;
+            joined(out, list.as_slice())?;
+            put(out, b")")
+        }
+    }
+}
+
+/// An expression that binds at least so tightly: 0 as `+` and `-`, 1 as `*`, 2 as an operand.
+#[tactic(auto, using(crate::proofs::Appends::append_again))]
+pub fn expr(out: &mut Vec<u8>, whole: &ExprAst, least: u8) -> Result<(), AllocError>
+    ensures { OnOk result (out.new.items ≡ out.old.items ++ spec.expr_text whole.now least) }
+{
+    match &whole.kind {
+        ExprKind::Literal(l) => literal(out, l),
+        ExprKind::Column(c) => column(out, c),
+        ExprKind::Add(left, right) => {
+            open(out, 0 < least)?;
+            expr(out, left.get(), 0)?;
+            put(out, b" + ")?;
+            expr(out, right.get(), 1)?;
+            close(out, 0 < least)
+        }
+        ExprKind::Sub(left, right) => {
+            open(out, 0 < least)?;
+            expr(out, left.get(), 0)?;
+            put(out, b" - ")?;
+            expr(out, right.get(), 1)?;
+            close(out, 0 < least)
+        }
+        ExprKind::Mul(left, right) => {
+            open(out, 1 < least)?;
+            expr(out, left.get(), 1)?;
+            put(out, b" * ")?;
+            expr(out, right.get(), 2)?;
+            close(out, 1 < least)
+        }
+    }
+}
