@@ -1,5 +1,5 @@
 -- What replicas that hold one database dump.
-use Rattle.std.proofs.Common.{◌≡◌, ℕ, List, [], ◌∷◌, map, replicate, length, refl, ap, ◌∙◌}
+use Rattle.std.proofs.Common.{◌≡◌, List, [], ◌∷◌, replicate, length, refl, ap, ◌∙◌}
 use Rattle.hr_rel.specs.declared.value.Value.{Value}
 use Rattle.hr_rel.specs.Database.{Database}
 use Rattle.hr_shepherd.specs.Replicas.{Hold}

@@ -1,5 +1,5 @@
 -- What the program's status says of what it read and wrote.
-use Rattle.std.specs.Prelude.{◌≡◌, ℕ, ◌+◌, ◌^◌, Bool, true, false, Option, List, [], ◌∷◌, length, map, string_bytes, codes, String}
+use Rattle.std.specs.Prelude.{◌≡◌, ◌+◌, ◌^◌, Bool, true, false, Option, List, [], ◌∷◌, length, map, string_bytes, codes, String}
 use Rattle.std.specs.Io.KnownBytes.{Consumes, Appends, IsAtEnd}
 use Rattle.std.specs.declared.alloc.Global.{Global}
 use Rattle.hr_io.specs.Bytes.{AppendsFront}

@@ -1,8 +1,7 @@
 -- The worked scenarios and their reports, line by line.
-use Rattle.std.specs.Prelude.{ℕ, pos, List, [], ◌∷◌, ◌++◌, codes}
+use Rattle.std.specs.Prelude.{pos, List, [], ◌∷◌, ◌++◌, codes}
 use Rattle.std.specs.List.{flat_map}
 use Rattle.hr_scenario.specs.declared.form.Form.{Form}
-use Rattle.hr_scenario.specs.declared.form.TableLine.{TableLine}
 use Rattle.hr_scenario.specs.declared.form.Step.{Step}
 use Rattle.hr_scenario.specs.declared.form.Step.TheVariants.{Insert, Select, Commit}
 use Rattle.hr_scenario.specs.declared.form.Column.TheVariants.{Value}

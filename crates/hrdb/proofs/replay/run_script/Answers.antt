@@ -1,4 +1,4 @@
-use Rattle.std.proofs.Common.{ℕ, map, replicate, length, ap, ◌∙◌}
+use Rattle.std.proofs.Common.{ℕ, map, replicate, ap, ◌∙◌}
 use Rattle.hr_rel.specs.Serial.{database_after}
 use Rattle.hrdb.specs.Replay.{statements_of}
 use Rattle.hrdb.proofs.Dumps.{dumps_are}

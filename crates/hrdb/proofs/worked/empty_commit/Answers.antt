@@ -1,7 +1,5 @@
-use Rattle.std.proofs.Common.{ℕ, pos, List, ◌∷◌, [], refl, lit≤, rules}
+use Rattle.std.proofs.Common.{[], refl, lit≤, rules}
 use Rattle.std.specs.Fmt.{digits}
-use Rattle.hr_scenario.specs.declared.form.Step.TheVariants.{Insert, Select}
-use Rattle.hr_scenario.specs.declared.form.Column.TheVariants.{Value}
 use Rattle.hrdb.specs.Worked.{empty_commit}
 use Rattle.hrdb.proofs.worked.empty_commit.Goals as goal
 

@@ -1,4 +1,4 @@
-use Rattle.std.proofs.Common.{ℕ, pos, List, ◌∷◌, [], refl, lit≤, rules}
+use Rattle.std.proofs.Common.{pos, ◌∷◌, [], refl, lit≤, rules}
 use Rattle.std.specs.Fmt.{digits}
 use Rattle.hr_scenario.specs.declared.form.Step.TheVariants.{Insert, Select}
 use Rattle.hr_scenario.specs.declared.form.Column.TheVariants.{Value}
