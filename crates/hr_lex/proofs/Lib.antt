@@ -2,3 +2,4 @@ pub mod Numbers
 pub mod Runs
 pub mod Spans
 pub mod Each
+pub mod Worked

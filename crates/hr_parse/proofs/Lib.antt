@@ -9,3 +9,4 @@ pub mod Whole
 pub mod Names
 pub mod Told
 pub mod Appends
+pub mod Worked

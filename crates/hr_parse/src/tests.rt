@@ -1,5 +1,6 @@
 use super::*;
 use hr_lex::LexError;
+use std::alloc::{AllocError, Global};
 use std::test::Fail;
 
 /// Statements, and the one text of their trees.
@@ -227,13 +228,17 @@ const LEXICAL: [(&str, LexError); 8] = [
     ("SELECT a FROM t WHERE a ! b", LexError::BadChar(24)),
 ];
 
+/// The one text of the statement that a text is.
+fn canonical(alloc: Global, text: &str) -> Result<Vec<u8>, ParseError> {
+    let ast = parse(alloc, text)?;
+    Ok(print(alloc, &ast)?)
+}
+
 /// Each statement is read, and its tree has the text beside it.
 #[test]
 fn print_canonical(rt: HostRuntime) -> Result<(), Fail> {
     for (text, wanted) in STATEMENTS {
-        let ast = parse(rt.alloc(), text)?;
-        let printed = print(rt.alloc(), &ast)?;
-        assert_eq!(rt; printed.as_slice(), wanted, "{text}");
+        assert_eq!(rt; canonical(rt.alloc(), text)?.as_slice(), wanted, "{text}");
     }
     Ok(())
 }
@@ -264,36 +269,32 @@ fn lexical_errors(rt: HostRuntime) -> Result<(), Fail> {
     Ok(())
 }
 
-/// The text with the most nested parentheses is read within the ordinary stack.
-#[test]
-fn deepest_text(rt: HostRuntime) -> Result<(), Fail> {
-    let mut text = String::from_str(rt.alloc(), "UPDATE t SET a=")?;
-    for _ in 0..504 {
+/// A text between parentheses, as many as asked.
+fn nested(alloc: Global, front: &str, inner: &str, depth: u32) -> Result<String, AllocError> {
+    let mut text = String::from_str(alloc, front)?;
+    for _ in 0..depth {
         text.push_str("(")?;
     }
-    text.push_str("1")?;
-    for _ in 0..504 {
+    text.push_str(inner)?;
+    for _ in 0..depth {
         text.push_str(")")?;
     }
-    let ast = parse(rt.alloc(), text.as_str())?;
-    let printed = print(rt.alloc(), &ast)?;
-    assert_eq!(rt; printed.as_slice(), b"UPDATE t SET a = 1".as_slice());
-    Ok(())
+    Ok(text)
 }
 
-/// The condition with the most nested rules is read within the ordinary stack.
+/// The texts with the most nested parentheses are read within the ordinary stack.
 #[test]
-fn deepest_condition(rt: HostRuntime) -> Result<(), Fail> {
-    let mut text = String::from_str(rt.alloc(), "DELETE FROM t WHERE ")?;
-    for _ in 0..500 {
-        text.push_str("(")?;
-    }
-    text.push_str("a=1")?;
-    for _ in 0..500 {
-        text.push_str(")")?;
-    }
-    let ast = parse(rt.alloc(), text.as_str())?;
-    let printed = print(rt.alloc(), &ast)?;
-    assert_eq!(rt; printed.as_slice(), b"DELETE FROM t WHERE a = 1".as_slice());
+fn deepest_texts(rt: HostRuntime) -> Result<(), Fail> {
+    let alloc = rt.alloc();
+    let sum = nested(alloc, "UPDATE t SET a=", "1", 504)?;
+    assert_eq!(rt;
+        canonical(alloc, sum.as_str())?.as_slice(),
+        b"UPDATE t SET a = 1".as_slice()
+    );
+    let condition = nested(alloc, "DELETE FROM t WHERE ", "a=1", 500)?;
+    assert_eq!(rt;
+        canonical(alloc, condition.as_str())?.as_slice(),
+        b"DELETE FROM t WHERE a = 1".as_slice()
+    );
     Ok(())
 }
