@@ -1,7 +1,6 @@
 //! What a person is told of a run that didn't end well.
 use crate::Status;
 use hr_scenario::InputKind;
-use std::process::ExitCode;
 use thiserror::Error;
 
 /// The statuses that have a text, each with its text.
@@ -31,9 +30,9 @@ pub fn fault_of(status: &Status) -> Option<Fault> {
     }
 }
 
-/// The program's exit code for a status.
-pub fn exit_code(status: &Status) -> ExitCode {
-    ExitCode::from(match *status {
+/// The program's exit status.
+pub fn exit_status(status: &Status) -> u8 {
+    match *status {
         Status::Ok => 0,
         Status::Differs => 1,
         Status::Usage => 2,
@@ -41,5 +40,5 @@ pub fn exit_code(status: &Status) -> ExitCode {
         Status::ReadFault => 4,
         Status::WriteFault => 5,
         Status::Memory => 6,
-    })
+    }
 }

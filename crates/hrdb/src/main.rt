@@ -12,7 +12,7 @@ mod tests;
 mod top;
 mod worked;
 
-use fault::{exit_code, fault_of};
+use fault::{exit_status, fault_of};
 use hr_io::{OpenGate, StdSink, StdSource};
 pub use status::Status;
 use std::alloc::AllocError;
@@ -34,7 +34,7 @@ fn main(rt: HostRuntime) -> ExitCode {
         // Where standard error takes nothing, the exit code tells.
         let _told = eprintln!(&rt; "{fault}");
     }
-    exit_code(&status)
+    ExitCode::from(exit_status(&status))
 }
 
 // The words behind the program's name.

@@ -1,8 +1,11 @@
 //! The program over sources and sinks in memory.
+ghost use Rattle.std.specs.Prelude.{◌<◌};
+
 use super::*;
+use crate::fault::{exit_status, fault_of};
 use hr_io::{MemSink, MemSource};
 use hr_scenario::InputKind;
-use std::alloc::Global;
+use std::alloc::{AllocError, Global};
 use std::process::Abort;
 use std::sync::Wait;
 use std::test::Fail;
@@ -62,6 +65,38 @@ const SOUND: Outside = Outside {
     write_fails: 0,
 };
 
+fn joined(alloc: Global, parts: &[&[u8]]) -> Result<Vec<u8>, AllocError> {
+    let mut bytes = Vec::new(alloc);
+    for part in parts {
+        bytes.extend_from_slice(part)?;
+    }
+    Ok(bytes)
+}
+
+fn strings(alloc: Global, words: &[&str]) -> Result<Vec<String>, AllocError> {
+    let mut all = Vec::new(alloc);
+    for word in words {
+        all.push(String::from_str(alloc, word)?)?;
+    }
+    Ok(all)
+}
+
+// A sink with room for the longest report here.
+fn sink(alloc: Global, outside: Outside) -> Result<MemSink, AllocError>
+    requires { 0 < outside.piece }
+{
+    let failing = [outside.write_fails].to_vec(alloc)?;
+    MemSink::new(alloc, outside.piece, 1000, failing)
+}
+
+fn source(alloc: Global, outside: Outside, input: &[&[u8]]) -> Result<MemSource, AllocError>
+    requires { 0 < outside.piece }
+{
+    let bytes = joined(alloc, input)?;
+    let failing = [outside.read_fails].to_vec(alloc)?;
+    Ok(MemSource::new(bytes, outside.piece, failing))
+}
+
 // Runs the program and compares its status and what it wrote.
 fn expect<R: Threads + Wait + Abort + Sync>(
     rt: &R,
@@ -74,22 +109,10 @@ fn expect<R: Threads + Wait + Abort + Sync>(
 ) -> Result<(), Fail>
     requires { 0 < outside.piece }
 {
-    let mut bytes = Vec::new(alloc);
-    for part in input {
-        bytes.extend_from_slice(part)?;
-    }
-    let mut all = Vec::new(alloc);
-    for word in words {
-        all.push(String::from_str(alloc, word)?)?;
-    }
-    let mut source = MemSource::new(bytes, outside.piece, [outside.read_fails].to_vec(alloc)?);
-    let mut sink = MemSink::new(
-        alloc,
-        outside.piece,
-        1000,
-        [outside.write_fails].to_vec(alloc)?,
-    )?;
-    let told = top(rt, alloc, &all, &mut source, &mut sink, &OpenGate);
+    let words = strings(alloc, words)?;
+    let mut source = source(alloc, outside, input)?;
+    let mut sink = sink(alloc, outside)?;
+    let told = top(rt, alloc, &words, &mut source, &mut sink, &OpenGate);
     assert_eq!(rt; told, status);
     assert_eq!(rt; sink.bytes(), written);
     Ok(())
@@ -238,6 +261,51 @@ fn sink_fails(rt: HostRuntime) -> Result<(), Fail> {
                 &INSERTED[..front],
             )?;
         }
+    }
+    Ok(())
+}
+
+// What a person is told of a status: the exit status, and a text on standard error or none.
+fn is_told<R: Abort>(
+    rt: &R,
+    alloc: Global,
+    status: Status,
+    exit: u8,
+    text: &str,
+) -> Result<(), Fail> {
+    assert_eq!(rt; exit_status(&status), exit);
+    let told = match fault_of(&status) {
+        Some(fault) => format!(in alloc; "{fault}")?,
+        None => String::new(alloc),
+    };
+    assert_eq!(rt; told.as_str(), text);
+    Ok(())
+}
+
+#[test]
+fn texts_of_faults(rt: HostRuntime) -> Result<(), Fail> {
+    let unbuilt = Status::Input {
+        line: 4,
+        kind: InputKind::Unbuilt,
+    };
+    let too_long = Status::Input {
+        line: 0,
+        kind: InputKind::TooLong,
+    };
+    let usage =
+        "usage: hrdb step, serve, audit, make SEED SESSIONS TRANSACTIONS, load SEED SESSIONS TRANSACTIONS";
+    let cases = [
+        (Status::Ok, 0, ""),
+        (Status::Differs, 1, ""),
+        (Status::Usage, 2, usage),
+        (unbuilt, 3, "input: line 4: unbuilt"),
+        (too_long, 3, "input: line 0: toolong"),
+        (Status::ReadFault, 4, "read fault"),
+        (Status::WriteFault, 5, "write fault"),
+        (Status::Memory, 6, "out of memory"),
+    ];
+    for (status, exit, text) in cases {
+        is_told(&rt, rt.alloc(), status, exit, text)?;
     }
     Ok(())
 }
