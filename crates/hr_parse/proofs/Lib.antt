@@ -8,5 +8,4 @@ pub mod Statements
 pub mod Whole
 pub mod Names
 pub mod Told
-pub mod Appends
 pub mod Worked

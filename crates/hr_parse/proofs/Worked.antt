@@ -7,7 +7,6 @@ use Rattle.hr_parse.specs.declared.ast.Ast.{Ast}
 use Rattle.hr_parse.specs.declared.ast.Ast.TheVariants as ast
 use Rattle.hr_parse.specs.Grammar.{Optional, IsName, IsDelete, IsCommand, IsStatement}
 use Rattle.hr_parse.specs.Parse.{IsTextOf}
-use Rattle.hr_parse.specs.Print.{text}
 
 abbrev pub delete_all : Ast
 delete_all = ast.Delete (record { table = record { name = codes "t"; at = 12 }; filter = None })
@@ -16,7 +15,3 @@ delete_all = ast.Delete (record { table = record { name = codes "t"; at = 12 }; 
 pub a_delete : IsTextOf (codes "delete from T;") delete_all
 unfolding token_at keyword
 a_delete = (refl, IsStatement.ended 13 (IsCommand.delete 0 (IsDelete.delete 7 (IsName.name (codes "t") 12) Optional.none)))
-
--- and this is the tree's text
-pub its_text : text delete_all ≡ codes "DELETE FROM t"
-its_text = refl

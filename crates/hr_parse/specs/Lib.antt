@@ -4,4 +4,3 @@ pub mod Lexemes
 pub mod Grammar
 pub mod Reading
 pub mod Parse
-pub mod Print

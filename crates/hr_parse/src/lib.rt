@@ -9,8 +9,6 @@ mod lexeme;
 mod list;
 mod name;
 mod operand;
-mod parts;
-mod printing;
 mod select;
 mod statement;
 mod texts;
@@ -21,7 +19,6 @@ pub use ast::{
     AggWord, Ast, ColumnAst, CondAst, DeleteAst, EntryAst, ExprAst, ExprKind, InsertAst, ItemAst,
     Items, JoinAst, LitAst, LiteralAst, NameAt, OperandAst, SelectAst, SetAst, TupleAst, UpdateAst,
 };
-pub use printing::print;
 pub use texts::{ParseError, parse};
 
 #[cfg(test)]

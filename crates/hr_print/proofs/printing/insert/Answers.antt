@@ -1,6 +1,5 @@
-use Rattle.std.proofs.Common.{◌≡◌}
-use Rattle.hr_parse.proofs.Appends.{written_four}
-use Rattle.hr_parse.proofs.printing.insert.Goals as goal
+use Rattle.hr_print.proofs.Appends.{written_four}
+use Rattle.hr_print.proofs.printing.insert.Goals as goal
 
 pub returns : goal.returns
 returns c =

@@ -1,9 +1,9 @@
 //! The texts of the parts that statements are made of.
 
 ghost use Rattle.std.specs.Prelude.{◌≡◌, ◌∷◌, [], ◌++◌, map, codes, OnOk};
-ghost use Rattle.hr_parse.specs.Print as spec;
+ghost use Rattle.hr_print.specs.Print as spec;
 
-use crate::ast::{ColumnAst, CondAst, ExprAst, ExprKind, LitAst, LiteralAst, NameAt, OperandAst};
+use hr_parse::{ColumnAst, CondAst, ExprAst, ExprKind, LitAst, LiteralAst, NameAt, OperandAst};
 use hr_rel::Op;
 use itoa::Buffer;
 use std::alloc::AllocError;

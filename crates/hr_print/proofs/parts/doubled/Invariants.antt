@@ -1,6 +1,6 @@
 use Rattle.std.proofs.Common.{◌≡◌, ◌++◌, length}
-use Rattle.hr_parse.specs.Print.{doubled}
-use Rattle.hr_parse.proofs.parts.doubled.Given as goal
+use Rattle.hr_print.specs.Print.{doubled}
+use Rattle.hr_print.proofs.parts.doubled.Given as goal
 
 abbrev pub invariant-loop-text : goal.invariant-loop-text
 invariant-loop-text l = l.out.items ++ doubled l.text ≡ l.fn.out.items ++ doubled l.initial.text

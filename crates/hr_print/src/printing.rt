@@ -1,14 +1,17 @@
 //! The one text of a statement: keywords in capitals, names in small letters, one blank between tokens where the
 //! profile has one, and parentheses only where the tree would be another without them.
 
-ghost use Rattle.std.specs.Prelude.{◌≡◌, ◌++◌, OnOk, IfOk};
-ghost use Rattle.hr_parse.specs.Print as spec;
+ghost use Rattle.std.specs.Prelude.{◌≡◌, ◌≤◌, ℕ, List, ◌++◌, length, OnOk, IfOk};
+ghost use Rattle.hr_parse.specs.Parse.{IsTextOf};
+ghost use Rattle.hr_parse.specs.declared.ast.Ast.{Ast};
+ghost use Rattle.hr_print.specs.Canonical.{Alike, IsRead, parentheses};
+ghost use Rattle.hr_print.specs.Print as spec;
 
-use crate::ast::{
+use crate::parts::{Shown, column, cond, expr, joined, put};
+use hr_parse::{
     AggWord, Ast, ColumnAst, CondAst, DeleteAst, EntryAst, InsertAst, ItemAst, Items, JoinAst,
     NameAt, SelectAst, SetAst, TupleAst, UpdateAst,
 };
-use crate::parts::{Shown, column, cond, expr, joined, put};
 use std::alloc::{AllocError, Global};
 
 fn word_text(word: AggWord) -> &'static [u8]
@@ -203,16 +206,30 @@ fn delete(out: &mut Vec<u8>, delete: &DeleteAst) -> Result<(), AllocError>
     Ok(())
 }
 
+fn statement(out: &mut Vec<u8>, ast: &Ast) -> Result<(), AllocError>
+    ensures { OnOk result (out.new.items ≡ out.old.items ++ spec.text ast.now) }
+{
+    match ast {
+        Ast::Select(s) => select(out, s),
+        Ast::Insert(i) => insert(out, i),
+        Ast::Update(u) => update(out, u),
+        Ast::Delete(d) => delete(out, d),
+    }
+}
+
 /// The one text of a statement. Places play no part in it.
 pub fn print(alloc: Global, ast: &Ast) -> Result<Vec<u8>, AllocError>
-    ensures { IfOk result (λ bytes. bytes.items ≡ spec.text ast.now) }
+    ensures text { IfOk result (λ bytes. bytes.items ≡ spec.text ast.now) }
+    // Where it is short enough to be read, it is read as the same tree apart from places.
+    ensures reread { IfOk result (λ bytes. IsRead ast.now → length bytes.items ≤ 1024
+        → (b : Ast) × IsTextOf bytes.items b × Alike b ast.now) }
+    // All trees that are the same apart from places have this text.
+    ensures canonical { IfOk result (λ bytes. (b : Ast) → Alike b ast.now → spec.text b ≡ bytes.items) }
+    // No text of the same tree has fewer parentheses.
+    ensures fewest { IfOk result (λ bytes. (t : List ℕ) (b : Ast) → IsTextOf t b → Alike b ast.now
+        → parentheses bytes.items ≤ parentheses t) }
 {
     let mut out = Vec::new(alloc);
-    match ast {
-        Ast::Select(s) => select(&mut out, s)?,
-        Ast::Insert(i) => insert(&mut out, i)?,
-        Ast::Update(u) => update(&mut out, u)?,
-        Ast::Delete(d) => delete(&mut out, d)?,
-    }
+    statement(&mut out, ast)?;
     Ok(out)
 }

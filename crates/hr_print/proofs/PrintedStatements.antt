@@ -1,0 +1,376 @@
+-- Statements, as they are printed.
+use Rattle.std.proofs.Common.{◌≡◌, ℕ, suc, ◌+◌, List, [], ◌∷◌, ◌++◌, map, codes, Option, Some, None, refl, sym, ap, subst, arith, append_assoc}
+use Rattle.std.specs.Option.{option_map}
+use Rattle.hr_rel.specs.declared.expr.Op.TheVariants as op
+use Rattle.hr_parse.specs.declared.ast.Ast.{Ast}
+use Rattle.hr_parse.specs.declared.ast.SelectAst.{SelectAst}
+use Rattle.hr_parse.specs.declared.ast.InsertAst.{InsertAst}
+use Rattle.hr_parse.specs.declared.ast.UpdateAst.{UpdateAst}
+use Rattle.hr_parse.specs.declared.ast.DeleteAst.{DeleteAst}
+use Rattle.hr_parse.specs.declared.ast.EntryAst.{EntryAst}
+use Rattle.hr_parse.specs.declared.ast.JoinAst.{JoinAst}
+use Rattle.hr_parse.specs.declared.ast.TupleAst.{TupleAst}
+use Rattle.hr_parse.specs.declared.ast.SetAst.{SetAst}
+use Rattle.hr_parse.specs.declared.ast.ExprAst.{ExprAst}
+use Rattle.hr_parse.specs.declared.ast.AggWord.{AggWord}
+use Rattle.hr_parse.specs.declared.ast.ItemAst.{ItemAst}
+use Rattle.hr_parse.specs.declared.ast.Items.{Items}
+use Rattle.hr_parse.specs.declared.ast.CondAst.{CondAst}
+use Rattle.hr_parse.specs.declared.ast.LiteralAst.{LiteralAst}
+use Rattle.hr_parse.specs.declared.ast.NameAt.{NameAt}
+use Rattle.hr_parse.specs.declared.ast.ColumnAst.{ColumnAst}
+use Rattle.hr_parse.specs.declared.ast.Ast.TheVariants as ast_of
+use Rattle.hr_parse.specs.declared.ast.AggWord.TheVariants as word_of
+use Rattle.hr_parse.specs.declared.ast.ItemAst.TheVariants as item_of
+use Rattle.hr_parse.specs.declared.ast.Items.TheVariants as items_of
+use Rattle.hr_parse.specs.declared.word.Mark.{Mark}
+use Rattle.hr_parse.specs.declared.word.Mark.TheVariants as m
+use Rattle.hr_parse.specs.declared.word.Word.TheVariants as w
+use Rattle.hr_parse.specs.declared.word.Lexeme.{Lexeme}
+use Rattle.hr_parse.specs.Words.{mark, compare, same_mark}
+use Rattle.hr_parse.specs.Grammar as g
+use Rattle.hr_print.specs.Print as p
+use Rattle.hr_print.specs.Places.{bare_name, bare_column, bare_literal, bare_cond, bare_expr, bare_item, bare_items, bare_entry, bare_join, bare_tuple, bare_set, bare}
+use Rattle.hr_print.proofs.Spelled.{Ends, says_before}
+use Rattle.hr_print.proofs.SaidSigns.{said_star}
+use Rattle.hr_print.proofs.SaidWords.{said_select, said_from, said_join, said_on, said_where, said_group, said_by, said_insert, said_into, said_values, said_update, said_set, said_delete, said_as, said_count, said_sum, said_min, said_max}
+use Rattle.hr_print.proofs.Folds.{four, five, seven}
+use Rattle.hr_print.proofs.Printed.{Printed, Like, The, Both, Valid, fixed, pair, change, nothing, spaced, retext, ap_two, count, count_both, valid_left, valid_right}
+use Rattle.hr_print.proofs.PrintedParts.{before_blank, between_blanks, op_said, some_again, printed_name, printed_column, printed_literal, printed_list}
+use Rattle.hr_print.proofs.PrintedChecks.{Enclosed, printed_enclosed}
+use Rattle.hr_print.proofs.PrintedConds.{cond_printed}
+use Rattle.hr_print.proofs.PrintedExprs.{expr_printed}
+
+-- an end may stand behind it before such a rest
+abbrev IsApart : List ℕ → Type 0
+IsApart text = (rest : List ℕ) → Ends rest → Ends (text ++ rest)
+
+-- ---- items
+
+agg_again : (k : Mark) (word : AggWord) → ((p q r : ℕ) (u : List Lexeme) (a : ColumnAst) → g.IsColumn u a → g.IsItem (mark k p ∷ mark m.LeftParen q ∷ (u ++ (mark m.RightParen r ∷ []))) (item_of.Aggregate word a p))
+    → (a : ColumnAst) (at : ℕ) (us : List Lexeme) (x : ℕ × (ℕ × (ColumnAst × ℕ))) → Both (The (w.Fixed k)) (Enclosed g.IsColumn) us x → (Unit {0} × (Unit {0} × (Like bare_column a x.1.1.0 × Unit {0})))
+    → (b : ItemAst) × g.IsItem us b × Like bare_item (item_of.Aggregate word a at) b
+agg_again k word rule a at us x (Both.both (The.the q) (Both.both (The.the r) (Both.both {u} l (The.the s)))) h =
+    (item_of.Aggregate word x.1.1.0 q, rule q r s u x.1.1.0 l, ap (λ c. item_of.Aggregate word c 0) h.1.1.0)
+
+count_all_again : (at : ℕ) (us : List Lexeme) (x : ℕ × (ℕ × (ℕ × ℕ))) → Both (The (w.Fixed m.Count)) (Enclosed (The (w.Fixed m.Star))) us x → (Unit {0} × (Unit {0} × (Unit {0} × Unit {0})))
+    → (b : ItemAst) × g.IsItem us b × Like bare_item (item_of.CountAll at) b
+count_all_again at us x (Both.both (The.the q) (Both.both (The.the r) (Both.both (The.the s) (The.the t)))) h = (item_of.CountAll q, g.IsItem.count_all q r s t, refl)
+
+enclosed_column : (u : List Lexeme) (r : ℕ) (a : ColumnAst) → g.IsColumn u a → Valid (u ++ (mark m.RightParen r ∷ []))
+    → Printed Ends (codes "(" ++ (p.column_text a ++ codes ")")) (Enclosed g.IsColumn) (λ x. Unit {0} × (Like bare_column a x.1.0 × Unit {0})) (suc (count (u ++ (mark m.RightParen r ∷ []))))
+unfolding same_mark
+enclosed_column u r a l h =
+    let n : count (u ++ (mark m.RightParen r ∷ [])) ≡ count u + 0 = count_both u (mark m.RightParen r ∷ []) in
+    change (printed_enclosed (printed_column u a l (valid_left u (mark m.RightParen r ∷ []) h))) (λ us x r e. (x, r, e)) (omega (arith, n))
+
+printed_item : (u : List Lexeme) (a : ItemAst) → g.IsItem u a → Valid u → Printed Ends (p.item_text a) g.IsItem (Like bare_item a) (count u)
+unfolding same_mark
+printed_item s b (g.IsItem.count_all p q r t) h =
+    change (pair (fixed (w.Fixed m.Count) said_count) (printed_enclosed (fixed {F = Ends} (w.Fixed m.Star) (says_before (codes "*") _ said_star))) (λ r e. refl)) (count_all_again p) (omega arith)
+printed_item s b (g.IsItem.count p q r {u} {a} l) h =
+    change (pair (fixed (w.Fixed m.Count) said_count) (enclosed_column u r a l h.1.1) (λ r e. refl)) (agg_again m.Count word_of.Count (λ p q r u a l. g.IsItem.count p q r l) a p) (omega arith)
+printed_item s b (g.IsItem.total p q r {u} {a} l) h =
+    change (pair (fixed (w.Fixed m.Sum) said_sum) (enclosed_column u r a l h.1.1) (λ r e. refl)) (agg_again m.Sum word_of.Sum (λ p q r u a l. g.IsItem.total p q r l) a p) (omega arith)
+printed_item s b (g.IsItem.least p q r {u} {a} l) h =
+    change (pair (fixed (w.Fixed m.Min) said_min) (enclosed_column u r a l h.1.1) (λ r e. refl)) (agg_again m.Min word_of.Min (λ p q r u a l. g.IsItem.least p q r l) a p) (omega arith)
+printed_item s b (g.IsItem.greatest p q r {u} {a} l) h =
+    change (pair (fixed (w.Fixed m.Max) said_max) (enclosed_column u r a l h.1.1) (λ r e. refl)) (agg_again m.Max word_of.Max (λ p q r u a l. g.IsItem.greatest p q r l) a p) (omega arith)
+printed_item s b (g.IsItem.plain {u} {a} l) h =
+    change (expr_printed u a l h).loose (λ us c k e. (item_of.Plain c, g.IsItem.plain k, ap item_of.Plain e)) (omega arith)
+
+star_again : (at : ℕ) (us : List Lexeme) (x : ℕ) → The (w.Fixed m.Star) us x → Unit {0} → (b : Items) × g.AreItems us b × Like bare_items (items_of.Star at) b
+star_again at us x (The.the q) h = (items_of.Star q, g.AreItems.star q, refl)
+
+printed_items : (u : List Lexeme) (a : Items) → g.AreItems u a → Valid u → Printed Ends (p.items_text a) g.AreItems (Like bare_items a) (count u)
+unfolding same_mark
+printed_items s b (g.AreItems.star p) h = change (fixed (w.Fixed m.Star) (says_before (codes "*") _ said_star)) (star_again p) (omega arith)
+printed_items s b (g.AreItems.listed {u} {all} l) h =
+    change (printed_list g.IsItem bare_item p.item_text printed_item u all l h) (λ us c k e. (items_of.Listed c, g.AreItems.listed k, ap items_of.Listed e)) (omega arith)
+
+-- ---- entries
+
+alias_again : (a : NameAt) (us : List Lexeme) (x : ℕ × NameAt) → Both (The (w.Fixed m.As)) g.IsName us x → (Unit {0} × Like bare_name a x.1)
+    → (b : Option NameAt) × g.IsAlias us b × Like (option_map bare_name) (Some a) b
+alias_again a us x (Both.both (The.the q) l) h = (Some x.1, g.IsAlias.behind_as q l, ap Some h.1)
+
+some_alias : (u : List Lexeme) (a : NameAt) → g.IsName u a → Valid u → Printed Ends (p.alias_text (Some a)) g.IsAlias (Like (option_map bare_name) (Some a)) (count u)
+unfolding same_mark
+some_alias u a l h = change (pair (fixed (w.Fixed m.As) (between_blanks (codes "AS") (w.Fixed m.As) said_as)) (printed_name u a l h) (λ r e. tt)) (alias_again a) (omega arith)
+
+printed_alias : (u : List Lexeme) (a : Option NameAt) → g.IsAlias u a → Valid u → Printed Ends (p.alias_text a) g.IsAlias (Like (option_map bare_name) a) (count u)
+unfolding same_mark
+printed_alias s b g.IsAlias.none h = nothing 0 None g.IsAlias.none refl
+printed_alias s b (g.IsAlias.plain {u} {a} l) h = some_alias u a l h
+printed_alias s b (g.IsAlias.behind_as p {u} {a} l) h = some_alias u a l h.1
+
+alias_apart : (a : Option NameAt) → IsApart (p.alias_text a)
+alias_apart None rest h = h
+alias_apart (Some a) rest h = refl
+
+entry_again : (a : NameAt) (b : Option NameAt) (us : List Lexeme) (x : NameAt × Option NameAt) → Both g.IsName g.IsAlias us x → (Like bare_name a x.0 × Like (option_map bare_name) b x.1)
+    → (c : EntryAst) × g.IsEntry us c × Like bare_entry (record { table = a; alias = b }) c
+entry_again a b us x (Both.both l k) h = (record { table = x.0; alias = x.1 }, g.IsEntry.entry l k, ap_two (λ (y : NameAt) (z : Option NameAt). record { table = y; alias = z }) h.0 h.1)
+
+printed_entry : (u : List Lexeme) (a : EntryAst) → g.IsEntry u a → Valid u → Printed Ends (p.entry_text a) g.IsEntry (Like bare_entry a) (count u)
+printed_entry s c (g.IsEntry.entry {u} {v} {a} {b} l k) h =
+    let all : count (u ++ v) ≡ count u + count v = count_both u v in
+    change (pair (printed_name u a l (valid_left u v h)) (printed_alias v b k (valid_right u v h)) (alias_apart b)) (entry_again a b) (omega (arith, all))
+
+-- ---- joins, filters and groups
+
+join_again : (a : EntryAst) (b : CondAst) (us : List Lexeme) (x : ℕ × (EntryAst × (ℕ × CondAst))) → Both (The (w.Fixed m.Join)) (Both g.IsEntry (Both (The (w.Fixed m.On)) g.IsCond)) us x
+    → (Unit {0} × (Like bare_entry a x.1.0 × (Unit {0} × Like bare_cond b x.1.1.1))) → (c : Option JoinAst) × g.IsJoin us c × Like (option_map bare_join) (Some (record { entry = a; on = b })) c
+join_again a b us x (Both.both (The.the q) (Both.both l (Both.both (The.the r) k))) h =
+    (Some (record { entry = x.1.0; on = x.1.1.1 }), g.IsJoin.join q (g.IsJoined.joined r l k), ap_two (λ (y : EntryAst) (z : CondAst). Some (record { entry = y; on = z })) h.1.0 h.1.1.1)
+
+some_join : (u : List Lexeme) (a : JoinAst) → g.IsJoined u a → Valid u → Printed Ends (p.join_text (Some a)) g.IsJoin (Like (option_map bare_join) (Some a)) (count u)
+unfolding same_mark
+some_join s c (g.IsJoined.joined q {u} {v} {a} {b} l k) h =
+    let all : count (u ++ (mark m.On q ∷ v)) ≡ count u + count v = count_both u (mark m.On q ∷ v) in
+    retext (codes " JOIN " ++ (p.entry_text a ++ (codes " ON " ++ p.cond_text b 0))) (codes " JOIN " ++ p.entry_text a ++ codes " ON " ++ p.cond_text b 0)
+    (sym (four (codes " JOIN ") (p.entry_text a) (codes " ON ") (p.cond_text b 0)))
+    (change (pair (fixed (w.Fixed m.Join) (between_blanks (codes "JOIN") (w.Fixed m.Join) said_join))
+    (pair (printed_entry u a l (valid_left u (mark m.On q ∷ v) h))
+    (pair (fixed (w.Fixed m.On) (between_blanks (codes "ON") (w.Fixed m.On) said_on)) (cond_printed v b k (valid_right u (mark m.On q ∷ v) h).1).loose (λ r e. tt)) (λ r e. refl)) (λ r e. tt))
+    (join_again a b) (omega (arith, all)))
+
+printed_join : (u : List Lexeme) (a : Option JoinAst) → g.IsJoin u a → Valid u → Printed Ends (p.join_text a) g.IsJoin (Like (option_map bare_join) a) (count u)
+unfolding same_mark
+printed_join s b g.IsJoin.none h = nothing 0 None g.IsJoin.none refl
+printed_join s b (g.IsJoin.join p {u} {a} l) h = some_join u a l h.1
+printed_join s b (g.IsJoin.inner_join p q {u} {a} l) h = some_join u a l h.1.1
+
+join_apart : (a : Option JoinAst) → IsApart (p.join_text a)
+join_apart None rest h = h
+join_apart (Some a) rest h = refl
+
+printed_filter : (u : List Lexeme) (a : Option CondAst) → g.Optional m.Where g.IsCond u a → Valid u → Printed Ends (p.filter_text a) (g.Optional m.Where g.IsCond) (Like (option_map bare_cond) a) (count u)
+unfolding same_mark
+printed_filter s b g.Optional.none h = nothing 0 None g.Optional.none refl
+printed_filter s b (g.Optional.some p {u} {a} l) h =
+    change (pair (fixed (w.Fixed m.Where) (between_blanks (codes "WHERE") (w.Fixed m.Where) said_where)) (cond_printed u a l h.1).loose (λ r e. tt)) (some_again m.Where g.IsCond bare_cond a) (omega arith)
+
+filter_apart : (a : Option CondAst) → IsApart (p.filter_text a)
+filter_apart None rest h = h
+filter_apart (Some a) rest h = refl
+
+groups_again : (list : List ColumnAst) (us : List Lexeme) (x : ℕ × (ℕ × List ColumnAst)) → Both (The (w.Fixed m.Group)) (Both (The (w.Fixed m.By)) (g.Listed g.IsColumn)) us x
+    → (Unit {0} × (Unit {0} × Like (map bare_column) list x.1.1)) → (b : List ColumnAst) × g.AreGroups us b × Like (map bare_column) list b
+groups_again list us x (Both.both (The.the q) (Both.both (The.the r) l)) h = (x.1.1, g.AreGroups.groups q r l, h.1.1)
+
+groups_shown : (u : List Lexeme) (list : List ColumnAst) → g.Listed g.IsColumn u list → p.groups_text list ≡ codes " GROUP BY " ++ p.joined (map p.column_text list)
+groups_shown u list (g.Listed.one l) = refl
+groups_shown u list (g.Listed.more p l k) = refl
+
+printed_groups : (u : List Lexeme) (a : List ColumnAst) → g.AreGroups u a → Valid u → Printed Ends (p.groups_text a) g.AreGroups (Like (map bare_column) a) (count u)
+unfolding same_mark
+printed_groups s b g.AreGroups.none h = nothing 0 [] g.AreGroups.none refl
+printed_groups s b (g.AreGroups.groups q r {u} {all} l) h =
+    retext (codes " GROUP BY " ++ p.joined (map p.column_text all)) (p.groups_text all) (sym (groups_shown u all l))
+    (change (pair (fixed (w.Fixed m.Group) (between_blanks (codes "GROUP") (w.Fixed m.Group) said_group))
+    (pair (fixed (w.Fixed m.By) (before_blank (codes "BY") (w.Fixed m.By) said_by)) (printed_list g.IsColumn bare_column p.column_text printed_column u all l h.1.1) (λ r e. tt)) (λ r e. tt))
+    (groups_again all) (omega arith))
+
+groups_apart : (a : List ColumnAst) → IsApart (p.groups_text a)
+groups_apart [] rest h = h
+groups_apart (c ∷ a) rest h = refl
+
+filter_groups_apart : (d : Option CondAst) (e : List ColumnAst) → IsApart (p.filter_text d ++ p.groups_text e)
+filter_groups_apart d e rest h = subst Ends (sym (append_assoc (p.filter_text d) (p.groups_text e) rest)) (filter_apart d (p.groups_text e ++ rest) (groups_apart e rest h))
+
+join_filter_apart : (c : Option JoinAst) (d : Option CondAst) (e : List ColumnAst) → IsApart (p.join_text c ++ (p.filter_text d ++ p.groups_text e))
+join_filter_apart c d e rest h =
+    let t : List ℕ = p.filter_text d ++ p.groups_text e in
+    subst Ends (sym (append_assoc (p.join_text c) t rest)) (join_apart c (t ++ rest) (filter_groups_apart d e rest h))
+
+-- ---- SELECT
+
+-- the parts of a SELECT behind its first word
+abbrev Selected : List Lexeme → Items × (ℕ × (EntryAst × (Option JoinAst × (Option CondAst × List ColumnAst)))) → Type 0
+Selected = Both g.AreItems (Both (The (w.Fixed m.From)) (Both g.IsEntry (Both g.IsJoin (Both (g.Optional m.Where g.IsCond) g.AreGroups))))
+
+abbrev SameSelected : SelectAst → Items × (ℕ × (EntryAst × (Option JoinAst × (Option CondAst × List ColumnAst)))) → Type 0
+SameSelected s x = Like bare_items s.items x.0 × (Unit {0} × (Like bare_entry s.first x.1.1.0 × (Like (option_map bare_join) s.join x.1.1.1.0
+    × (Like (option_map bare_cond) s.filter x.1.1.1.1.0 × Like (map bare_column) s.groups x.1.1.1.1.1))))
+
+select_again : (s : SelectAst) (us : List Lexeme) (x : ℕ × (Items × (ℕ × (EntryAst × (Option JoinAst × (Option CondAst × List ColumnAst)))))) → Both (The (w.Fixed m.Select)) Selected us x
+    → (Unit {0} × SameSelected s x.1) → (b : Ast) × g.IsCommand us b × Like bare (ast_of.Select s) b
+select_again s us x (Both.both (The.the q) (Both.both a (Both.both (The.the r) (Both.both b (Both.both c (Both.both d e)))))) h =
+    let y = x.1.1.1 in (
+      ast_of.Select (record { items = x.1.0; first = y.0; join = y.1.0; filter = y.1.1.0; groups = y.1.1.1 }),
+      g.IsCommand.select q (g.IsSelect.select r a b c d e),
+      cc (h.1.0, h.1.1.1.0, h.1.1.1.1.0, h.1.1.1.1.1.0, h.1.1.1.1.1.1),
+    )
+
+printed_select : (u : List Lexeme) (a : SelectAst) → g.IsSelect u a → Valid u → Printed Ends (p.select_text a) g.IsCommand (Like bare (ast_of.Select a)) (count u)
+unfolding same_mark
+printed_select s t (g.IsSelect.select q {u} {v} {w = j} {x = f} {y} {a} {b} {c} {d} {e} l k i r o) h =
+    let from_on : List Lexeme = v ++ (j ++ (f ++ y)) in
+    let rest = (valid_right u (mark m.From q ∷ from_on) h).1 in
+    let join_on = valid_right v (j ++ (f ++ y)) rest in
+    let filter_on = valid_right j (f ++ y) join_on in
+    let n : count (u ++ (mark m.From q ∷ from_on)) ≡ count u + count from_on = count_both u (mark m.From q ∷ from_on) in
+    let n1 : count from_on ≡ count v + count (j ++ (f ++ y)) = count_both v (j ++ (f ++ y)) in
+    let n2 : count (j ++ (f ++ y)) ≡ count j + count (f ++ y) = count_both j (f ++ y) in
+    let n3 : count (f ++ y) ≡ count f + count y = count_both f y in
+    retext _ _ (sym (seven (codes "SELECT ") (p.items_text a) (codes " FROM ") (p.entry_text b) (p.join_text c) (p.filter_text d) (p.groups_text e)))
+    (change (pair (fixed (w.Fixed m.Select) (before_blank (codes "SELECT") (w.Fixed m.Select) said_select))
+    (pair (printed_items u a l (valid_left u (mark m.From q ∷ from_on) h))
+    (pair (fixed (w.Fixed m.From) (between_blanks (codes "FROM") (w.Fixed m.From) said_from))
+    (pair (printed_entry v b k (valid_left v (j ++ (f ++ y)) rest))
+    (pair (printed_join j c i (valid_left j (f ++ y) join_on))
+    (pair (printed_filter f d r (valid_left f y filter_on)) (printed_groups y e o (valid_right f y filter_on)) (groups_apart e))
+    (λ z ends. filter_groups_apart d e z ends))
+    (λ z ends. join_filter_apart c d e z ends))
+    (λ z ends. tt))
+    (λ z ends. refl))
+    (λ z ends. tt))
+    (select_again (record { items = a; first = b; join = c; filter = d; groups = e })) (omega (arith, n, n1, n2, n3)))
+
+-- ---- INSERT
+
+tuple_again : (list : List LiteralAst) (at : ℕ) (us : List Lexeme) (x : ℕ × (List LiteralAst × ℕ)) → Enclosed (g.Listed g.IsLiteral) us x → (Unit {0} × (Like (map bare_literal) list x.1.0 × Unit {0}))
+    → (b : TupleAst) × g.IsTuple us b × Like bare_tuple (record { values = list; at = at }) b
+tuple_again list at us x (Both.both (The.the q) (Both.both l (The.the r))) h =
+    (record { values = x.1.0; at = q }, g.IsTuple.tuple q r l, ap (λ (z : List LiteralAst). record { values = z; at = 0 }) h.1.0)
+
+printed_tuple : (u : List Lexeme) (a : TupleAst) → g.IsTuple u a → Valid u → Printed Ends (p.tuple_text a) g.IsTuple (Like bare_tuple a) (count u)
+unfolding same_mark
+printed_tuple s b (g.IsTuple.tuple q r {u} {all} l) h =
+    let n : count (u ++ (mark m.RightParen r ∷ [])) ≡ count u + 0 = count_both u (mark m.RightParen r ∷ []) in
+    change (printed_enclosed (printed_list g.IsLiteral bare_literal p.literal_text printed_literal u all l (valid_left u (mark m.RightParen r ∷ []) h.1))) (tuple_again all q) (omega (arith, n))
+
+columns_again : (list : List NameAt) (us : List Lexeme) (x : ℕ × (List NameAt × ℕ)) → Enclosed (g.Listed g.IsName) us x → (Unit {0} × (Like (map bare_name) list x.1.0 × Unit {0}))
+    → (b : List NameAt) × g.AreColumns us b × Like (map bare_name) list b
+columns_again list us x (Both.both (The.the q) (Both.both l (The.the r))) h = (x.1.0, g.AreColumns.columns q r l, h.1.0)
+
+columns_shown : (u : List Lexeme) (list : List NameAt) → g.Listed g.IsName u list → p.columns_text list ≡ codes " (" ++ (p.joined (map p.name_text list) ++ codes ")")
+columns_shown u list (g.Listed.one l) = refl
+columns_shown u list (g.Listed.more p l k) = refl
+
+printed_columns : (u : List Lexeme) (a : List NameAt) → g.AreColumns u a → Valid u → Printed Ends (p.columns_text a) g.AreColumns (Like (map bare_name) a) (count u)
+unfolding same_mark
+printed_columns s b g.AreColumns.none h = nothing 0 [] g.AreColumns.none refl
+printed_columns s b (g.AreColumns.columns q r {u} {all} l) h =
+    let n : count (u ++ (mark m.RightParen r ∷ [])) ≡ count u + 0 = count_both u (mark m.RightParen r ∷ []) in
+    retext (codes " (" ++ (p.joined (map p.name_text all) ++ codes ")")) (p.columns_text all) (sym (columns_shown u all l))
+    (change (spaced (printed_enclosed (printed_list g.IsName bare_name p.name_text printed_name u all l (valid_left u (mark m.RightParen r ∷ []) h.1)))) (columns_again all) (omega (arith, n)))
+
+columns_apart : (a : List NameAt) → IsApart (p.columns_text a)
+columns_apart [] rest h = h
+columns_apart (c ∷ a) rest h = refl
+
+columns_values_apart : (a : List NameAt) (t rest : List ℕ) → Ends ((p.columns_text a ++ (codes " VALUES " ++ t)) ++ rest)
+columns_values_apart [] t rest = refl
+columns_values_apart (c ∷ a) t rest = refl
+
+abbrev Inserted : List Lexeme → ℕ × (ℕ × (NameAt × (List NameAt × (ℕ × List TupleAst)))) → Type 0
+Inserted = Both (The (w.Fixed m.Insert)) (Both (The (w.Fixed m.Into)) (Both g.IsName (Both g.AreColumns (Both (The (w.Fixed m.Values)) (g.Listed g.IsTuple)))))
+
+insert_again : (a : NameAt) (b : List NameAt) (c : List TupleAst) (us : List Lexeme) (x : ℕ × (ℕ × (NameAt × (List NameAt × (ℕ × List TupleAst))))) → Inserted us x
+    → (Unit {0} × (Unit {0} × (Like bare_name a x.1.1.0 × (Like (map bare_name) b x.1.1.1.0 × (Unit {0} × Like (map bare_tuple) c x.1.1.1.1.1)))))
+    → (i : Ast) × g.IsCommand us i × Like bare (ast_of.Insert (record { table = a; columns = b; tuples = c })) i
+insert_again a b c us x (Both.both (The.the o) (Both.both (The.the q) (Both.both l (Both.both k (Both.both (The.the r) j))))) h =
+    let y = x.1.1 in
+    (ast_of.Insert (record { table = y.0; columns = y.1.0; tuples = y.1.1.1 }), g.IsCommand.insert o (g.IsInsert.insert q r l k j), cc (h.1.1.0, h.1.1.1.0, h.1.1.1.1.1))
+
+printed_insert : (u : List Lexeme) (a : InsertAst) → g.IsInsert u a → Valid u → Printed Ends (p.insert_text a) g.IsCommand (Like bare (ast_of.Insert a)) (count u)
+unfolding same_mark
+printed_insert s t (g.IsInsert.insert q r {u} {v} {w = x} {a} {b} {c} l k j) h =
+    let last : List Lexeme = mark m.Values r ∷ x in
+    let rest = valid_right u (v ++ last) h.1 in
+    let n : count (u ++ (v ++ last)) ≡ count u + count (v ++ last) = count_both u (v ++ last) in
+    let n1 : count (v ++ last) ≡ count v + count x = count_both v last in
+    retext _ _ (sym (five (codes "INSERT INTO ") a.name (p.columns_text b) (codes " VALUES ") (p.joined (map p.tuple_text c))))
+    (change (pair (fixed (w.Fixed m.Insert) (before_blank (codes "INSERT") (w.Fixed m.Insert) said_insert))
+    (pair (fixed (w.Fixed m.Into) (before_blank (codes "INTO") (w.Fixed m.Into) said_into))
+    (pair (printed_name u a l (valid_left u (v ++ last) h.1))
+    (pair (printed_columns v b k (valid_left v last rest))
+    (pair (fixed (w.Fixed m.Values) (between_blanks (codes "VALUES") (w.Fixed m.Values) said_values))
+    (printed_list g.IsTuple bare_tuple p.tuple_text printed_tuple x c j (valid_right v last rest).1) (λ z ends. tt))
+    (λ z ends. refl))
+    (λ z ends. columns_values_apart b (p.joined (map p.tuple_text c)) z))
+    (λ z ends. tt))
+    (λ z ends. tt))
+    (insert_again a b c) (omega (arith, n, n1)))
+
+-- ---- UPDATE and DELETE
+
+set_again : (a : NameAt) (b : ExprAst) (us : List Lexeme) (x : NameAt × (ℕ × ExprAst)) → Both g.IsName (Both (The (w.Compare op.Eq)) g.IsExpr) us x → (Like bare_name a x.0 × (Unit {0} × Like bare_expr b x.1.1))
+    → (c : SetAst) × g.IsSet us c × Like bare_set (record { column = a; value = b }) c
+set_again a b us x (Both.both l (Both.both (The.the q) k)) h =
+    (record { column = x.0; value = x.1.1 }, g.IsSet.assigned q l k, ap_two (λ (y : NameAt) (z : ExprAst). record { column = y; value = z }) h.0 h.1.1)
+
+printed_set : (u : List Lexeme) (a : SetAst) → g.IsSet u a → Valid u → Printed Ends (p.set_text a) g.IsSet (Like bare_set a) (count u)
+unfolding same_mark
+printed_set s c (g.IsSet.assigned q {u} {v} {a} {b} l k) h =
+    let last : List Lexeme = compare op.Eq q ∷ v in
+    let n : count (u ++ last) ≡ count u + count v = count_both u last in
+    retext _ _ (sym (append_assoc a.name (codes " = ") (p.expr_text b 0)))
+    (change (pair (printed_name u a l (valid_left u last h)) (pair (fixed (w.Compare op.Eq) (op_said op.Eq)) (expr_printed v b k (valid_right u last h).1).loose (λ z ends. tt)) (λ z ends. refl))
+    (set_again a b) (omega (arith, n)))
+
+abbrev Updated : List Lexeme → ℕ × (NameAt × (ℕ × (List SetAst × Option CondAst))) → Type 0
+Updated = Both (The (w.Fixed m.Update)) (Both g.IsName (Both (The (w.Fixed m.Set)) (Both (g.Listed g.IsSet) (g.Optional m.Where g.IsCond))))
+
+update_again : (a : NameAt) (b : List SetAst) (c : Option CondAst) (us : List Lexeme) (x : ℕ × (NameAt × (ℕ × (List SetAst × Option CondAst)))) → Updated us x
+    → (Unit {0} × (Like bare_name a x.1.0 × (Unit {0} × (Like (map bare_set) b x.1.1.1.0 × Like (option_map bare_cond) c x.1.1.1.1))))
+    → (i : Ast) × g.IsCommand us i × Like bare (ast_of.Update (record { table = a; sets = b; filter = c })) i
+update_again a b c us x (Both.both (The.the o) (Both.both l (Both.both (The.the q) (Both.both k j)))) h =
+    let y = x.1 in
+    (ast_of.Update (record { table = y.0; sets = y.1.1.0; filter = y.1.1.1 }), g.IsCommand.update o (g.IsUpdate.update q l k j), cc (h.1.0, h.1.1.1.0, h.1.1.1.1))
+
+printed_update : (u : List Lexeme) (a : UpdateAst) → g.IsUpdate u a → Valid u → Printed Ends (p.update_text a) g.IsCommand (Like bare (ast_of.Update a)) (count u)
+unfolding same_mark
+printed_update s t (g.IsUpdate.update q {u} {v} {w = x} {a} {b} {c} l k j) h =
+    let rest : List Lexeme = mark m.Set q ∷ (v ++ x) in
+    let after = (valid_right u rest h).1 in
+    let n : count (u ++ rest) ≡ count u + count (v ++ x) = count_both u rest in
+    let n1 : count (v ++ x) ≡ count v + count x = count_both v x in
+    retext _ _ (sym (five (codes "UPDATE ") a.name (codes " SET ") (p.joined (map p.set_text b)) (p.filter_text c)))
+    (change (pair (fixed (w.Fixed m.Update) (before_blank (codes "UPDATE") (w.Fixed m.Update) said_update))
+    (pair (printed_name u a l (valid_left u rest h))
+    (pair (fixed (w.Fixed m.Set) (between_blanks (codes "SET") (w.Fixed m.Set) said_set))
+    (pair (printed_list g.IsSet bare_set p.set_text printed_set v b k (valid_left v x after)) (printed_filter x c j (valid_right v x after)) (filter_apart c))
+    (λ z ends. tt))
+    (λ z ends. refl))
+    (λ z ends. tt))
+    (update_again a b c) (omega (arith, n, n1)))
+
+abbrev Deleted : List Lexeme → ℕ × (ℕ × (NameAt × Option CondAst)) → Type 0
+Deleted = Both (The (w.Fixed m.Delete)) (Both (The (w.Fixed m.From)) (Both g.IsName (g.Optional m.Where g.IsCond)))
+
+delete_again : (a : NameAt) (b : Option CondAst) (us : List Lexeme) (x : ℕ × (ℕ × (NameAt × Option CondAst))) → Deleted us x
+    → (Unit {0} × (Unit {0} × (Like bare_name a x.1.1.0 × Like (option_map bare_cond) b x.1.1.1)))
+    → (i : Ast) × g.IsCommand us i × Like bare (ast_of.Delete (record { table = a; filter = b })) i
+delete_again a b us x (Both.both (The.the o) (Both.both (The.the q) (Both.both l k))) h =
+    (ast_of.Delete (record { table = x.1.1.0; filter = x.1.1.1 }), g.IsCommand.delete o (g.IsDelete.delete q l k), cc (h.1.1.0, h.1.1.1))
+
+printed_delete : (u : List Lexeme) (a : DeleteAst) → g.IsDelete u a → Valid u → Printed Ends (p.delete_text a) g.IsCommand (Like bare (ast_of.Delete a)) (count u)
+unfolding same_mark
+printed_delete s t (g.IsDelete.delete q {u} {v} {a} {b} l k) h =
+    let n : count (u ++ v) ≡ count u + count v = count_both u v in
+    change (pair (fixed (w.Fixed m.Delete) (before_blank (codes "DELETE") (w.Fixed m.Delete) said_delete))
+    (pair (fixed (w.Fixed m.From) (before_blank (codes "FROM") (w.Fixed m.From) said_from))
+    (pair (printed_name u a l (valid_left u v h.1)) (printed_filter v b k (valid_right u v h.1)) (filter_apart b))
+    (λ z ends. tt))
+    (λ z ends. tt))
+    (delete_again a b) (omega (arith, n))
+
+-- ---- whole statements
+
+printed_command : (u : List Lexeme) (a : Ast) → g.IsCommand u a → Valid u → Printed Ends (p.text a) g.IsCommand (Like bare a) (count u)
+unfolding same_mark
+printed_command s b (g.IsCommand.select q {u} {a} l) h = change (printed_select u a l h.1) (λ us c k e. (c, k, e)) (omega arith)
+printed_command s b (g.IsCommand.insert q {u} {a} l) h = change (printed_insert u a l h.1) (λ us c k e. (c, k, e)) (omega arith)
+printed_command s b (g.IsCommand.update q {u} {a} l) h = change (printed_update u a l h.1) (λ us c k e. (c, k, e)) (omega arith)
+printed_command s b (g.IsCommand.delete q {u} {a} l) h = change (printed_delete u a l h.1) (λ us c k e. (c, k, e)) (omega arith)
+
+pub printed_statement : (u : List Lexeme) (a : Ast) → g.IsStatement u a → Valid u → Printed Ends (p.text a) g.IsStatement (Like bare a) (count u)
+unfolding same_mark
+printed_statement s b (g.IsStatement.plain {u} {a} l) h = change (printed_command u a l h) (λ us c k e. (c, g.IsStatement.plain k, e)) (omega arith)
+printed_statement s b (g.IsStatement.ended q {u} {a} l) h =
+    let last : List Lexeme = mark m.Semicolon q ∷ [] in
+    let n : count (u ++ last) ≡ count u + 0 = count_both u last in
+    change (printed_command u a l (valid_left u last h)) (λ us c k e. (c, g.IsStatement.plain k, e)) (omega (arith, n))
