@@ -1,5 +1,5 @@
 -- Each token stands on bytes of the text.
-use Rattle.std.proofs.Common.{◌≡◌, ◌≤◌, ◌<◌, ℕ, zero, suc, ◌+◌, ◌-◌, Bool, true, false, nat_le, if◌then◌else◌, ◌==◌, List, [], ◌∷◌, ◌++◌, length, drop, take, Option, Some, None, Result, Ok, Err, refl, sym, ◌∙◌, ap, subst, arith}
+use Rattle.std.proofs.Common.{◌≡◌, ◌≤◌, ℕ, ◌+◌, ◌-◌, Bool, true, false, nat_le, if◌then◌else◌, List, [], ◌∷◌, ◌++◌, length, drop, take, Option, Some, None, Result, Ok, Err, refl, ◌∙◌, ap, arith}
 use Rattle.std.specs.List.{prefix_len, AllByRecursion}
 use Rattle.std.proofs.lemmas.Bool.Decides.{nat_tests}
 use Rattle.std.proofs.lemmas.List.Folds.{length-prefix_len}
@@ -11,12 +11,12 @@ use Rattle.hr_lex.specs.declared.token.TokenKind.{TokenKind}
 use Rattle.hr_lex.specs.declared.token.TokenKind.TheVariants as t
 use Rattle.hr_lex.specs.declared.token.LexError.{LexError}
 use Rattle.hr_lex.specs.declared.token.LexError.TheVariants as e
-use Rattle.hr_lex.specs.Bytes.{is_letter, is_digit, is_name_byte}
+use Rattle.hr_lex.specs.Bytes.{is_digit, is_name_byte}
 use Rattle.hr_lex.specs.Keywords.{keyword}
 use Rattle.hr_lex.specs.Numbers.{number, fitting}
 use Rattle.hr_lex.specs.Quotes.{closing}
 use Rattle.hr_lex.specs.Signs.{long_sign, short_sign}
-use Rattle.hr_lex.specs.Tokens.{token, word_of, word_at, number_of, number_at, quoted, sign_of, sign_at, token_at, Spans, IsNameText, IsTokenOf, written}
+use Rattle.hr_lex.specs.Tokens.{token, word_of, number_of, quoted, sign_of, sign_at, token_at, Spans, IsNameText, IsTokenOf}
 use Rattle.hr_lex.proofs.Runs.{run_passes}
 
 pub all_more : {A : Type 0} (P : A → Type 0) (xs : List A) (x : A) → AllByRecursion P xs → P x → AllByRecursion P (xs ++ x ∷ [])

@@ -120,3 +120,21 @@ IsNameText bytes = (length bytes ≤ 32) × AllByRecursion (λ b. is_name_byte b
 -- a token stands on bytes of the text, and a name's are those of a name
 abbrev pub IsTokenOf : List ℕ → Token → Type 0
 IsTokenOf text token = (token.from < token.to) × (token.to ≤ length text) × (token.kind ≡ t.Name → IsNameText (written text token))
+
+-- ---- how the tokens stand in the text
+
+-- nothing but blanks stands from a place up to another
+abbrev pub OnlyBlanks : List ℕ → ℕ → ℕ → Type 0
+OnlyBlanks text from to = AllByRecursion (λ b. is_blank b ≡ true) (take (to - from) (drop from text))
+
+-- Tokens tile a text from a place up to another: blanks and then a token, again and again, and then blanks. So they
+-- stand in order, none reaches into the next, and only blanks stand between them.
+abbrev pub Tiles : List ℕ → ℕ → ℕ → List Token → Type 0
+Tiles text at end [] = (at ≤ end) × OnlyBlanks text at end
+Tiles text at end (t ∷ others) = (at ≤ t.from) × OnlyBlanks text at t.from × (t.from < t.to) × Tiles text t.to end others
+
+-- Tokens tile a text from a place on, all of it, or up to the place where there is an error in place of a token.
+abbrev pub TilesUpTo : List ℕ → ℕ → List Token → Option LexError → Type 0
+TilesUpTo text at tokens None = Tiles text at (length text) tokens
+TilesUpTo text at tokens (Some error) =
+    (place : ℕ) × (place < length text) × Tiles text at place tokens × (token_at place (drop place text) ≡ Err error)

@@ -171,6 +171,7 @@ fn read_bytes(alloc: Global, bytes: &[u8]) -> Result<Reading, AllocError>
 pub fn read(alloc: Global, text: &str) -> Result<Reading, AllocError>
     ensures value { IfOk result (λ r. spec.reading_of r ≡ spec.read_of text.now) }
     ensures each { IfOk result (λ r. AllByRecursion (spec.IsTokenOf text.now) r.tokens.items) }
+    ensures tiles { IfOk result (λ r. length text.now ≤ 1024 → spec.TilesUpTo text.now 0 r.tokens.items r.error) }
 {
     let bytes = text.as_bytes();
     if bytes.len() > MOST_BYTES {
@@ -182,10 +183,12 @@ pub fn read(alloc: Global, text: &str) -> Result<Reading, AllocError>
     read_bytes(alloc, bytes)
 }
 
-/// The tokens of a text, or its first error from the left.
+/// The tokens of a text, which tile it, or its first error from the left.
+#[tactic(auto, using(crate::proofs::Tiling::tokens_tile))]
 pub fn tokens(alloc: Global, text: &str) -> Result<Vec<Token>, LexError>
     ensures ok { IfOk result (λ all. spec.tokens_of text.now ≡ Ok all.items) }
     ensures each { IfOk result (λ all. AllByRecursion (spec.IsTokenOf text.now) all.items) }
+    ensures tiles { IfOk result (λ all. spec.Tiles text.now 0 (length text.now) all.items) }
     ensures err { IfErr result (λ e. (e ≡ LexError.Memory) ⊎ (spec.tokens_of text.now ≡ Err e)) }
 {
     let Reading { tokens, error } = read(alloc, text)?;
