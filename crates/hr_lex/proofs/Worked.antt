@@ -1,10 +1,10 @@
 -- Worked texts.
-use Rattle.std.proofs.Common.{◌≡◌, List, [], ◌∷◌, codes, Ok, Err, refl}
+use Rattle.std.proofs.Common.{◌≡◌, [], ◌∷◌, codes, Ok, Err, refl, rules}
 use Rattle.hr_lex.specs.declared.token.Keyword.TheVariants as k
 use Rattle.hr_lex.specs.declared.token.TokenKind.TheVariants as t
 use Rattle.hr_lex.specs.declared.token.LexError.TheVariants as e
 use Rattle.hr_lex.specs.Keywords.{keyword}
-use Rattle.hr_lex.specs.Tokens.{token, token_at, tokens_of}
+use Rattle.hr_lex.specs.Tokens.{token, token_at, tokens_of, Tiles}
 
 -- the longest sign is taken
 pub comparison : tokens_of (codes "a<=1") ≡ Ok (token t.Name 0 1 ∷ token t.LessEqual 1 3 ∷ token (t.Number 1) 3 4 ∷ [])
@@ -28,3 +28,11 @@ past_the_largest = refl
 pub no_token : tokens_of (codes "a#") ≡ Err (e.BadChar 1)
 unfolding token_at keyword
 no_token = refl
+
+-- blanks in front, between and behind
+pub tiled : Tiles (codes " a <=1 ") 0 7 (token t.Name 1 2 ∷ token t.LessEqual 3 5 ∷ token (t.Number 1) 5 6 ∷ [])
+tiled = search rules
+
+-- tokens that leave a letter out don't tile
+pub left_out : Tiles (codes "ab") 0 2 (token t.Name 0 1 ∷ []) → ⊥
+left_out h = let blank = h.3.1.0 in cc
