@@ -1,8 +1,6 @@
 -- The readers of conditions read what the grammar says.
-use Rattle.std.proofs.Common.{◌≡◌, ◌≤◌, ◌<◌, ℕ, zero, suc, ◌+◌, ◌*◌, Bool, true, false, List, [], ◌∷◌, ◌++◌, length, Option, Some, None, refl, arith, lit<, append_assoc}
-use Rattle.hr_rel.specs.declared.expr.Op.{Op}
+use Rattle.std.proofs.Common.{◌≡◌, ℕ, zero, suc, Bool, true, false, List, [], ◌∷◌, ◌++◌, None, refl, arith, lit<, append_assoc}
 use Rattle.hr_parse.specs.declared.ast.LitAst.TheVariants as lit
-use Rattle.hr_parse.specs.declared.ast.LiteralAst.{LiteralAst}
 use Rattle.hr_parse.specs.declared.ast.OperandAst.{OperandAst}
 use Rattle.hr_parse.specs.declared.ast.OperandAst.TheVariants as operand_of
 use Rattle.hr_parse.specs.declared.ast.CondAst.{CondAst}
@@ -12,7 +10,7 @@ use Rattle.hr_parse.specs.declared.word.Mark.TheVariants as m
 use Rattle.hr_parse.specs.declared.word.Lexeme.{Lexeme}
 use Rattle.hr_parse.specs.Words.{mark, same_mark}
 use Rattle.hr_parse.specs.Reading.{sees, sees_compare, between, among, nullity, range_or_list_of, range_or_list, check, test, neg, conj, conj_behind, cond, cond_behind}
-use Rattle.hr_parse.specs.Grammar.{Listed, IsName, IsColumn, IsLiteral, IsOperand, IsCheck, IsNeg, IsConj, AndMore, IsCond, OrMore, Optional}
+use Rattle.hr_parse.specs.Grammar.{Listed, IsName, IsColumn, IsLiteral, IsOperand, IsCheck, IsNeg, IsConj, AndMore, IsCond, OrMore}
 use Rattle.hr_parse.proofs.Rules.{Stops, Rule, Seq, Map, Done, IsMark, Ahead, Only, Compared, rule_iso, rule_seq, rule_map, rule_pure, rule_expect, rule_weak, rule_ahead, rule_only, rule_at_compare}
 use Rattle.hr_parse.proofs.Stops.{any, stops_here, stops_rest, firm_mark, firm_seq, firm_map}
 use Rattle.hr_parse.proofs.Operands.{Fits, never, never_stops, rule_literal, rule_operand, rule_listed, rule_refuse}

@@ -1,7 +1,6 @@
 -- The readers of expressions read what the grammar says.
-use Rattle.std.proofs.Common.{◌≡◌, ◌≤◌, ◌<◌, ℕ, zero, suc, ◌+◌, ◌*◌, Bool, true, false, List, [], ◌∷◌, ◌++◌, length, refl, arith, append_assoc}
+use Rattle.std.proofs.Common.{◌≡◌, ℕ, zero, suc, Bool, false, List, [], ◌∷◌, ◌++◌, refl, arith, append_assoc}
 use Rattle.hr_parse.specs.declared.ast.LitAst.TheVariants as lit
-use Rattle.hr_parse.specs.declared.ast.OperandAst.{OperandAst}
 use Rattle.hr_parse.specs.declared.ast.OperandAst.TheVariants as operand_of
 use Rattle.hr_parse.specs.declared.ast.ExprAst.{ExprAst}
 use Rattle.hr_parse.specs.declared.word.Mark.{Mark}
@@ -10,7 +9,7 @@ use Rattle.hr_parse.specs.declared.word.Lexeme.{Lexeme}
 use Rattle.hr_parse.specs.Words.{mark, same_mark}
 use Rattle.hr_parse.specs.Trees.{sum, difference, product, placed, simple}
 use Rattle.hr_parse.specs.Reading.{sees, factor, term, term_behind, expr, expr_behind}
-use Rattle.hr_parse.specs.Grammar.{IsName, IsColumn, IsLiteral, IsOperand, IsFactor, IsTerm, TimesMore, IsExpr, PlusMore}
+use Rattle.hr_parse.specs.Grammar.{IsLiteral, IsOperand, IsFactor, IsTerm, TimesMore, IsExpr, PlusMore}
 use Rattle.hr_parse.proofs.Rules.{Stops, Rule, Seq, Map, Done, IsMark, Ahead, rule_iso, rule_seq, rule_map, rule_pure, rule_expect, rule_weak, rule_ahead}
 use Rattle.hr_parse.proofs.Stops.{any, stops_here, stops_rest, firm_mark, firm_map}
 use Rattle.hr_parse.proofs.Operands.{Fits, rule_operand, rule_refuse}

@@ -1,5 +1,5 @@
 -- Marks, as tests and as words.
-use Rattle.std.proofs.Common.{◌≡◌, ℕ, Bool, true, false, List, [], ◌∷◌, ◌++◌, ap, refl, sym, ◌∙◌, rules}
+use Rattle.std.proofs.Common.{◌≡◌, true, ap, refl, sym, rules}
 use denote.Enum.Bare.{same_true, true_same}
 use Rattle.hr_parse.specs.contracts.word.Mark.{the_type}
 use Rattle.hr_parse.specs.declared.word.Mark.{Mark}

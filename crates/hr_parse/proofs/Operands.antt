@@ -1,10 +1,8 @@
 -- The readers of names, columns, literals, operands and lists read what the grammar says.
-use Rattle.std.proofs.Common.{◌≡◌, ◌≤◌, ◌<◌, ℕ, zero, suc, ◌+◌, ◌*◌, ◌^◌, ℤ, pos, Bool, true, false, cond, nat_le, nat_lt, if◌then◌else◌, List, [], ◌∷◌, ◌++◌, length, Option, Some, None, Result, Ok, Err, inl, inr, ap, subst, refl, sym, ◌∙◌, rules, arith, append_assoc}
-use Rattle.std.proofs.lemmas.List.{append-nil, length-append}
+use Rattle.std.proofs.Common.{◌≡◌, ◌≤◌, ◌<◌, ℕ, zero, suc, ◌+◌, ◌*◌, ◌^◌, ℤ, pos, Bool, true, false, nat_le, nat_lt, if◌then◌else◌, List, [], ◌∷◌, ◌++◌, length, Option, Some, None, Ok, Err, inl, inr, ap, subst, refl, sym, ◌∙◌, arith, append_assoc}
+use Rattle.std.proofs.lemmas.List.{append-nil}
 use Rattle.std.specs.Option.{option_map}
 use Rattle.std.proofs.lemmas.Bool.Decides.{nat_tests}
-use Rattle.hr_rel.specs.declared.expr.Op.{Op}
-use Rattle.hr_rel.specs.declared.expr.Op.TheVariants as op
 use Rattle.hr_parse.specs.declared.ast.NameAt.{NameAt}
 use Rattle.hr_parse.specs.declared.ast.ColumnAst.{ColumnAst}
 use Rattle.hr_parse.specs.declared.ast.LitAst.{LitAst}
@@ -17,12 +15,12 @@ use Rattle.hr_parse.specs.declared.word.Mark.TheVariants as m
 use Rattle.hr_parse.specs.declared.word.Word.{Word}
 use Rattle.hr_parse.specs.declared.word.Word.TheVariants as w
 use Rattle.hr_parse.specs.declared.word.Lexeme.{Lexeme}
-use Rattle.hr_parse.specs.Words.{is_mark, mark, named, number, text, compare, same_mark}
+use Rattle.hr_parse.specs.Words.{is_mark, mark, named, number, text, same_mark}
 use Rattle.hr_parse.specs.Trees.{minus}
-use Rattle.hr_parse.specs.Reading.{Outcome, Reader, and_then, ◌>>=◌, pure, refuse, sees, place, expect, ahead, ahead_at, optional, name_of, name, column, sees_name, at_name, literal_by, negative_word, constant_word, negated, plain, negative, constant, literal, operand_at, listed_behind, listed}
+use Rattle.hr_parse.specs.Reading.{Outcome, Reader, refuse, sees, optional, name_of, name, column, sees_name, literal_by, negative_word, constant_word, negative, constant, literal, operand_at, listed_behind, listed}
 use Rattle.hr_parse.specs.Grammar.{Optional, Listed, IsName, IsColumn, IsLiteral, IsOperand}
-use Rattle.hr_parse.proofs.Rules.{Stops, Got, Stuck, Whole, Rule, Seq, Map, Done, IsMark, Ahead, Only, Either, rule_iso, rule_seq, rule_map, rule_pure, rule_expect, rule_weak, rule_ahead, rule_only, rule_at_name, ok_parts}
-use Rattle.hr_parse.proofs.Stops.{any, stops_here, stops_rest, Through, through_optional, through_map}
+use Rattle.hr_parse.proofs.Rules.{Stops, Got, Stuck, Whole, Rule, Seq, Map, Done, Ahead, Either, rule_iso, rule_seq, rule_map, rule_pure, rule_weak, rule_ahead, rule_at_name, ok_parts}
+use Rattle.hr_parse.proofs.Stops.{any, stops_here}
 
 -- a length that the number of turns allows
 abbrev pub Fits : ℕ → ℕ → ℕ → Type 0

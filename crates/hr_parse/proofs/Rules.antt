@@ -1,14 +1,13 @@
 -- What holds of a reader of a rule, and how it is put together from what holds of the rule's parts.
-use Rattle.std.proofs.Common.{◌≡◌, ◌≤◌, ◌<◌, ◌⊎◌, inl, inr, ℕ, zero, suc, ◌+◌, ◌*◌, Bool, true, false, List, [], ◌∷◌, ◌++◌, length, drop, Option, Some, None, Result, Ok, Err, ap, subst, refl, sym, ◌∙◌, rules, arith, append_assoc}
-use Rattle.std.proofs.lemmas.List.{append-nil, length-append}
-use Rattle.std.proofs.lemmas.Bool.{cases_Bool}
+use Rattle.std.proofs.Common.{◌≡◌, ◌⊎◌, inl, inr, ℕ, suc, ◌+◌, Bool, true, false, List, [], ◌∷◌, ◌++◌, length, Option, Some, None, Ok, Err, ap, subst, refl, sym, ◌∙◌, arith, append_assoc}
+use Rattle.std.proofs.lemmas.List.{length-append}
 use Rattle.hr_parse.specs.declared.word.Mark.{Mark}
 use Rattle.hr_rel.specs.declared.expr.Op.{Op}
 use Rattle.hr_parse.specs.declared.word.Word.{Word}
 use Rattle.hr_parse.specs.declared.word.Word.TheVariants as w
 use Rattle.hr_parse.specs.declared.word.Lexeme.{Lexeme}
 use Rattle.hr_parse.specs.Words.{is_mark, mark, compare}
-use Rattle.hr_parse.specs.Reading.{Outcome, Reader, and_then, ◌>>=◌, pure, refuse, sees, place, expect, ahead_at, sees_name, at_name, comparison, sees_compare, at_compare}
+use Rattle.hr_parse.specs.Reading.{Outcome, Reader, and_then, ◌>>=◌, pure, refuse, sees, expect, ahead_at, sees_name, at_name, comparison, sees_compare, at_compare}
 use Rattle.hr_parse.proofs.Marks.{mark_self, is_the_mark}
 
 -- what follows doesn't go on with such a word

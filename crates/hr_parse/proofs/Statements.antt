@@ -1,5 +1,5 @@
 -- The readers of statements read what the grammar says.
-use Rattle.std.proofs.Common.{◌≡◌, ◌≤◌, ◌<◌, ℕ, zero, suc, ◌+◌, ◌*◌, Bool, true, false, if◌then◌else◌, List, [], ◌∷◌, ◌++◌, length, drop, Option, Some, None, Result, Ok, Err, refl, sym, ◌∙◌, ap, subst, arith, lit<, append_assoc}
+use Rattle.std.proofs.Common.{◌≡◌, ℕ, ◌+◌, Bool, true, false, if◌then◌else◌, List, [], ◌∷◌, ◌++◌, drop, Option, Some, None, Ok, Err, refl, sym, subst, arith, lit<, append_assoc}
 use Rattle.hr_rel.specs.declared.expr.Op.{Op}
 use Rattle.hr_rel.specs.declared.expr.Op.TheVariants as op
 use Rattle.hr_parse.specs.declared.ast.Ast.{Ast}
@@ -11,28 +11,24 @@ use Rattle.hr_parse.specs.declared.ast.EntryAst.{EntryAst}
 use Rattle.hr_parse.specs.declared.ast.JoinAst.{JoinAst}
 use Rattle.hr_parse.specs.declared.ast.TupleAst.{TupleAst}
 use Rattle.hr_parse.specs.declared.ast.SetAst.{SetAst}
-use Rattle.hr_parse.specs.declared.ast.ExprAst.{ExprAst}
 use Rattle.hr_parse.specs.declared.ast.CondAst.{CondAst}
 use Rattle.hr_parse.specs.declared.ast.AggWord.{AggWord}
 use Rattle.hr_parse.specs.declared.ast.ItemAst.{ItemAst}
 use Rattle.hr_parse.specs.declared.ast.Items.{Items}
 use Rattle.hr_parse.specs.declared.ast.NameAt.{NameAt}
 use Rattle.hr_parse.specs.declared.ast.ColumnAst.{ColumnAst}
-use Rattle.hr_parse.specs.declared.ast.LiteralAst.{LiteralAst}
 use Rattle.hr_parse.specs.declared.ast.Ast.TheVariants as ast_of
 use Rattle.hr_parse.specs.declared.ast.AggWord.TheVariants as word_of
 use Rattle.hr_parse.specs.declared.ast.ItemAst.TheVariants as item_of
 use Rattle.hr_parse.specs.declared.ast.Items.TheVariants as items_of
 use Rattle.hr_parse.specs.declared.word.Mark.{Mark}
 use Rattle.hr_parse.specs.declared.word.Mark.TheVariants as m
-use Rattle.hr_parse.specs.declared.word.Word.{Word}
-use Rattle.hr_parse.specs.declared.word.Word.TheVariants as w
 use Rattle.hr_parse.specs.declared.word.Lexeme.{Lexeme}
-use Rattle.hr_parse.specs.Words.{mark, named, compare, is_mark, same_mark}
-use Rattle.hr_parse.specs.Reading.{Outcome, Reader, and_then, ◌>>=◌, pure, refuse, sees, sees_name, sees_compare, place, expect, ahead_at, comparison, is_equal, expect_equal, name, literal, listed, cond, expr, aggregated, counted, folded, item, items, alias, entry, joined, join, filter, groups, select, tuple, named_columns, insert, assignment, update, delete, command}
+use Rattle.hr_parse.specs.Words.{mark, compare, same_mark}
+use Rattle.hr_parse.specs.Reading.{Outcome, Reader, and_then, ◌>>=◌, pure, refuse, sees, sees_name, place, expect, ahead_at, comparison, is_equal, expect_equal, literal, listed, aggregated, counted, folded, item, items, alias, entry, joined, join, filter, groups, select, tuple, named_columns, insert, assignment, update, delete, command}
 use Rattle.hr_parse.specs.Grammar.{Optional, Listed, IsName, IsColumn, IsLiteral, IsCond, IsExpr, IsItem, AreItems, IsAlias, IsEntry, IsJoined, IsJoin, AreGroups, IsSelect, IsTuple, AreColumns, IsInsert, IsSet, IsUpdate, IsDelete, IsCommand}
 use Rattle.hr_parse.proofs.Rules.{Stops, Rule, Seq, Map, Done, IsMark, Ahead, Only, Either, rule_iso, rule_seq, rule_map, rule_pure, rule_expect, rule_weak, rule_ahead, rule_only, rule_at_name, is_the_compare}
-use Rattle.hr_parse.proofs.Stops.{any, ending, stops_end, stops_here, stops_rest, firm_mark, firm_seq, firm_map, through_map, through_seq, through_optional, Firm, Through}
+use Rattle.hr_parse.proofs.Stops.{any, ending, stops_end, stops_here, stops_rest, firm_mark, firm_seq, firm_map, through_map, through_seq, through_optional, Through}
 use Rattle.hr_parse.proofs.Operands.{Fits, never, never_stops, by_test, Tested, rule_test, rule_alike, rule_name, rule_column, rule_literal, rule_optional, rule_listed}
 use Rattle.hr_parse.proofs.Conditions.{rule_cond}
 use Rattle.hr_parse.proofs.Expressions.{rule_expr, expr_unseen}

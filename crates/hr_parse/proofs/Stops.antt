@@ -1,13 +1,13 @@
 -- What stops a reader, before and behind a part.
-use Rattle.std.proofs.Common.{◌≡◌, ℕ, Bool, true, false, cond, if◌then◌else◌, List, [], ◌∷◌, ◌++◌, Option, Some, None, refl, sym, ◌∙◌, append_assoc}
+use Rattle.std.proofs.Common.{◌≡◌, ℕ, Bool, true, false, cond, if◌then◌else◌, List, [], ◌∷◌, ◌++◌, refl, append_assoc}
 use Rattle.hr_parse.specs.declared.word.Mark.{Mark}
 use Rattle.hr_parse.specs.declared.word.Mark.TheVariants as m
 use Rattle.hr_parse.specs.declared.word.Lexeme.{Lexeme}
-use Rattle.hr_parse.specs.Words.{is_mark, mark, named, same_mark}
-use Rattle.hr_parse.specs.Reading.{sees, sees_name, is_name}
+use Rattle.hr_parse.specs.Words.{is_mark, mark}
+use Rattle.hr_parse.specs.Reading.{sees}
 use Rattle.hr_parse.specs.Grammar.{Optional}
 use Rattle.hr_parse.proofs.Marks.{is_the_mark}
-use Rattle.hr_parse.proofs.Rules.{Stops, Seq, Map, Done, IsMark, Ahead}
+use Rattle.hr_parse.proofs.Rules.{Stops, Seq, Map, IsMark}
 
 -- one of these marks
 abbrev pub any : List Mark → Lexeme → Bool

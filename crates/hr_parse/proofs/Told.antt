@@ -1,14 +1,13 @@
 -- What is told of a text is what its words and its tokens' error say.
-use Rattle.std.proofs.Common.{◌≡◌, ◌≤◌, ◌⊎◌, inl, inr, ℕ, nat_lt, if◌then◌else◌, Bool, true, false, List, [], ◌∷◌, ◌++◌, length, Option, Some, None, Result, Ok, Err, IfOk, IfErr, refl, sym, ◌∙◌, ap, subst, arith}
+use Rattle.std.proofs.Common.{◌≡◌, ◌≤◌, ◌⊎◌, inl, inr, ℕ, nat_lt, Bool, true, false, List, [], length, Option, Some, None, Result, Ok, Err, IfOk, IfErr, refl, sym, ◌∙◌, ap, subst, arith}
 use Rattle.std.proofs.lemmas.List.{append-nil}
 use Rattle.std.proofs.lemmas.Bool.Decides.{nat_tests}
 use Rattle.hr_lex.specs.declared.token.LexError.{LexError}
-use Rattle.hr_lex.specs.Tokens.{read_of, reading}
+use Rattle.hr_lex.specs.Tokens.{read_of}
 use Rattle.hr_parse.specs.declared.ast.Ast.{Ast}
 use Rattle.hr_parse.specs.declared.word.Lexeme.{Lexeme}
 use Rattle.hr_parse.specs.declared.texts.SyntaxError.{SyntaxError}
 use Rattle.hr_parse.specs.declared.texts.SyntaxError.TheVariants as syntax
-use Rattle.hr_parse.specs.declared.texts.ParseError.{ParseError}
 use Rattle.hr_parse.specs.declared.texts.ParseError.TheVariants as e
 use Rattle.hr_parse.specs.Grammar.{IsStatement}
 use Rattle.hr_parse.specs.Parse.{Begins, Refused, IsTextOf, TextRefused, words, error, told}

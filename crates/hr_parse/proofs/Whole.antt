@@ -1,5 +1,5 @@
 -- Whole statements: what is read is one, what is one is read, and the first word that is refused is unexpected.
-use Rattle.std.proofs.Common.{◌≡◌, ◌≤◌, ◌⊎◌, inl, inr, ℕ, suc, ◌<◌, get_or, ◌+◌, ◌*◌, Bool, true, false, List, [], ◌∷◌, ◌++◌, length, drop, Result, Ok, Err, refl, sym, ◌∙◌, ap, subst, arith, append_assoc}
+use Rattle.std.proofs.Common.{◌≡◌, ◌≤◌, inl, inr, ℕ, ◌<◌, get_or, ◌+◌, ◌*◌, Bool, true, false, List, [], ◌∷◌, ◌++◌, length, Ok, Err, refl, sym, ◌∙◌, ap, subst, arith, append_assoc}
 use Rattle.std.proofs.lemmas.List.{append-nil, length-append}
 use Rattle.hr_parse.specs.declared.ast.Ast.{Ast}
 use Rattle.hr_parse.specs.declared.word.Mark.TheVariants as m
@@ -7,11 +7,11 @@ use Rattle.hr_parse.specs.declared.word.Lexeme.{Lexeme}
 use Rattle.hr_parse.specs.declared.words.Stop.{Stop}
 use Rattle.hr_parse.specs.declared.words.Stop.TheVariants.{Unexpected}
 use Rattle.hr_parse.specs.Words.{mark, is_mark, same_mark}
-use Rattle.hr_parse.specs.Reading.{Outcome, Reader, Reads, and_then, pure, sees, expect_end, ahead, command, statement}
+use Rattle.hr_parse.specs.Reading.{Reader, Reads, and_then, pure, expect_end, ahead, command, statement}
 use Rattle.hr_parse.specs.Grammar.{IsCommand, IsStatement}
 use Rattle.hr_parse.specs.Parse.{Begins, NoneWith, UnexpectedAt, Unended}
-use Rattle.hr_parse.proofs.Marks.{mark_self, is_the_mark}
-use Rattle.hr_parse.proofs.Rules.{Got, Stuck, Whole, Rule, bind_ok, bind_err, ok_parts}
+use Rattle.hr_parse.proofs.Marks.{is_the_mark}
+use Rattle.hr_parse.proofs.Rules.{Got, Stuck, Whole, bind_ok, bind_err, ok_parts}
 use Rattle.hr_parse.proofs.Operands.{Fits}
 use Rattle.hr_parse.proofs.Statements.{rule_command}
 

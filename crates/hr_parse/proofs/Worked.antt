@@ -1,8 +1,7 @@
 -- Worked statements.
-use Rattle.std.proofs.Common.{◌≡◌, List, [], ◌∷◌, codes, None, refl}
+use Rattle.std.proofs.Common.{codes, None, refl}
 use Rattle.hr_lex.specs.Keywords.{keyword}
 use Rattle.hr_lex.specs.Tokens.{token_at}
-use Rattle.hr_rel.specs.declared.expr.Op.TheVariants as op
 use Rattle.hr_parse.specs.declared.ast.Ast.{Ast}
 use Rattle.hr_parse.specs.declared.ast.Ast.TheVariants as ast
 use Rattle.hr_parse.specs.Grammar.{Optional, IsName, IsDelete, IsCommand, IsStatement}

@@ -1,5 +1,5 @@
 -- The grammar: which words are a statement, and with which tree. One case for each form of a rule.
-use Rattle.std.specs.Prelude.{ℕ, zero, suc, ◌<◌, ◌≤◌, ◌^◌, ℤ, pos, negsuc, true, false, List, [], ◌∷◌, ◌++◌, Option, Some, None}
+use Rattle.std.specs.Prelude.{ℕ, ◌<◌, ◌≤◌, ◌^◌, pos, true, false, List, [], ◌∷◌, ◌++◌, Option, Some, None}
 use Rattle.hr_rel.specs.declared.expr.Op.{Op}
 use Rattle.hr_rel.specs.declared.expr.Op.TheVariants as op
 use Rattle.hr_parse.specs.declared.ast.Ast.{Ast}
@@ -12,12 +12,10 @@ use Rattle.hr_parse.specs.declared.ast.JoinAst.{JoinAst}
 use Rattle.hr_parse.specs.declared.ast.TupleAst.{TupleAst}
 use Rattle.hr_parse.specs.declared.ast.SetAst.{SetAst}
 use Rattle.hr_parse.specs.declared.ast.ExprAst.{ExprAst}
-use Rattle.hr_parse.specs.declared.ast.AggWord.{AggWord}
 use Rattle.hr_parse.specs.declared.ast.ItemAst.{ItemAst}
 use Rattle.hr_parse.specs.declared.ast.Items.{Items}
 use Rattle.hr_parse.specs.declared.ast.CondAst.{CondAst}
 use Rattle.hr_parse.specs.declared.ast.OperandAst.{OperandAst}
-use Rattle.hr_parse.specs.declared.ast.LitAst.{LitAst}
 use Rattle.hr_parse.specs.declared.ast.LiteralAst.{LiteralAst}
 use Rattle.hr_parse.specs.declared.ast.NameAt.{NameAt}
 use Rattle.hr_parse.specs.declared.ast.ColumnAst.{ColumnAst}

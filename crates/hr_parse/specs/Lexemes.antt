@@ -1,5 +1,5 @@
 -- What tokens say, as words.
-use Rattle.std.specs.Prelude.{ℕ, ◌-◌, Bool, true, false, ◌==◌, List, [], ◌∷◌, map, length, take, drop, if◌then◌else◌}
+use Rattle.std.specs.Prelude.{ℕ, ◌-◌, Bool, true, false, ◌==◌, List, [], ◌∷◌, map, length, take, drop}
 use Rattle.std.specs.Str.{str_to_ascii_lowercase}
 use Rattle.hr_lex.specs.declared.token.Keyword.{Keyword}
 use Rattle.hr_lex.specs.declared.token.Keyword.TheVariants as k

@@ -1,7 +1,5 @@
 -- How expressions are put together.
 use Rattle.std.specs.Prelude.{ℕ, zero, suc, ℤ, pos, negsuc}
-use Rattle.hr_parse.specs.declared.ast.ColumnAst.{ColumnAst}
-use Rattle.hr_parse.specs.declared.ast.LiteralAst.{LiteralAst}
 use Rattle.hr_parse.specs.declared.ast.OperandAst.{OperandAst}
 use Rattle.hr_parse.specs.declared.ast.OperandAst.TheVariants as operand
 use Rattle.hr_parse.specs.declared.ast.ExprAst.{ExprAst, out-ExprAst, roll-ExprAst}

@@ -1,5 +1,4 @@
-use Rattle.std.proofs.Common.{◌≡◌, ◌∙◌}
-use Rattle.hr_rel.specs.Printable.{IsText}
+use Rattle.std.proofs.Common.{◌∙◌}
 use Rattle.hr_parse.proofs.Names.{name_is_text}
 use Rattle.hr_parse.proofs.lexeme.name.Goals as goal
 

@@ -1,8 +1,6 @@
-use Rattle.std.proofs.Common.{◌≡◌, ◌∙◌, sym, subst, ap, length, IfErr, List, Option, None, rules, arith}
+use Rattle.std.proofs.Common.{◌≡◌, ◌∙◌, sym, subst, IfErr, List, None, rules, arith}
 use Rattle.std.proofs.lemmas.Grind.{common_steps}
-use Rattle.hr_lex.specs.declared.token.LexError.{LexError}
 use Rattle.hr_parse.specs.declared.word.Lexeme.{Lexeme}
-use Rattle.hr_parse.specs.Lexemes.{lexemes}
 use Rattle.hr_parse.specs.Parse.{TextRefused, words, error}
 use Rattle.hr_parse.proofs.Told.{Read, told_err, short}
 use Rattle.hr_parse.proofs.texts.parse.Goals as goal

@@ -1,4 +1,4 @@
-use Rattle.std.proofs.Common.{◌≡◌, ap, inl, arith, rules, Ok}
+use Rattle.std.proofs.Common.{ap, inl, arith, Ok}
 use Rattle.hr_parse.proofs.Whole.{read_is, refused, cause_end, cause_word, stops_at, no_other, not_refused}
 use Rattle.hr_parse.proofs.texts.syntax.Goals as goal
 
