@@ -1,4 +1,4 @@
-ghost use Rattle.std.specs.Prelude.{◌≡◌, ◌+◌, ◌≤◌, ◌&&◌, ◌||◌, if◌then◌else◌, not, [], List, IfOk, IsTrue, Some, option_copied};
+ghost use Rattle.std.specs.Prelude.{◌≡◌, ◌+◌, ◌≤◌, ◌&&◌, ◌||◌, if◌then◌else◌, not, true, [], List, IfOk, IsTrue, Some, option_copied};
 ghost use Rattle.hr_rel.specs.Database.{Database};
 ghost use Rattle.hr_engine.specs.declared.reply.RunReply.TheVariants as reply;
 ghost use Rattle.hr_engine.specs.Base.{shown};
@@ -126,7 +126,11 @@ impl<B: Backend> Backend for Faulty<B> {
         told
     }
 
-    fn dump(&self, alloc: Global) -> Result<Rows, AllocError> {
+    // The script acts at no dump, so the backend within need be honest, and no more.
+    fn dump(&self, alloc: Global) -> Result<Rows, AllocError>
+        ensures honest { B.is_honest self.now.inner && not (lies self.now.script) ≡ true → IfOk result (λ rows. rows ≡ (B.base self.now.inner).tables) }
+        ensures within { B.is_honest self.now.inner ≡ true → IfOk result (λ rows. rows ≡ (B.base self.now.inner).tables) }
+    {
         self.inner.dump(alloc)
     }
 }
