@@ -1,4 +1,5 @@
 pub mod SameAnswersLemmas
+pub mod CanonicalLemmas
 pub mod StepLemmas
 pub mod TxnSteps
 pub mod ReplicaSteps

@@ -1,5 +1,5 @@
 -- `same_answer` tells exactly whether two answers are one.
-use Rattle.std.proofs.Common.{◌≡◌, true, IsTrue, ◌↔◌, [], ◌∷◌, refl, ap, subst}
+use Rattle.std.proofs.Common.{◌≡◌, ℕ, ◌==◌, true, IsTrue, ◌↔◌, List, [], ◌∷◌, refl, ap, subst}
 use Rattle.std.specs.Cmp.{eq_by_cmp_equiv, signed_Decides}
 use Rattle.std.specs.Cmp.Lexicographic.{slice_cmp}
 use Rattle.std.specs.Ordering.{ordering_then}
@@ -9,6 +9,7 @@ use Rattle.std.proofs.lemmas.Cmp.{lists_total, int_eq_equiv, nat_eq_equiv}
 use Rattle.std.proofs.lemmas.Map.Lookups.{CmpEqualImpliesEq}
 use Rattle.std.proofs.lemmas.Bool.Decides.{Decides-eqb}
 use Rattle.std.proofs.lemmas.Map.Views.{tells_apart}
+use Rattle.hr_rel.specs.declared.value.Value.{Value}
 use Rattle.hr_rel.specs.declared.answer.Answer.{Answer}
 use Rattle.hr_rel.specs.declared.answer.Answer.TheVariants.{Rows, Count, Failed}
 use Rattle.hr_rel.specs.declared.answer.RunError.{RunError}
@@ -45,8 +46,20 @@ error_itself (NullRefused n) = nat_eq_equiv.refl n
 error_itself TooManyRows = refl
 error_itself Unfit = refl
 
+pub error_decides : (a b : RunError) → IsTrue (same_error a b) ↔ (a ≡ b)
+error_decides a b = (λ h. error_exact a b h, λ e. subst (λ c. IsTrue (same_error a c)) e (error_itself a))
+
+pub count_decides : (m n : ℕ) → IsTrue (m == n) ↔ (m ≡ n)
+count_decides m n = Decides-eqb m n
+
+pub rows_decides : (xs ys : List (List Value)) → IsTrue (same_answer (Rows xs) (Rows ys)) ↔ (xs ≡ ys)
+rows_decides xs ys = (
+  λ h. tells_apart (lists_exact row_cmp row_exact) xs ys h,
+  λ e. subst (λ zs. IsTrue (same_answer (Rows xs) (Rows zs))) e ((eq_by_cmp_equiv (lists_total row_total)).refl xs),
+)
+
 answer_exact : (a b : Answer) → same_answer a b ≡ true → a ≡ b
-answer_exact (Rows xs) (Rows ys) h = ap Rows (tells_apart (lists_exact row_cmp row_exact) xs ys h)
+answer_exact (Rows xs) (Rows ys) h = ap Rows ((rows_decides xs ys).0 h)
 answer_exact (Count m) (Count n) h = ap Count ((Decides-eqb m n).0 h)
 answer_exact (Failed d) (Failed e) h = ap Failed (error_exact d e h)
 answer_exact _ _ h = cc

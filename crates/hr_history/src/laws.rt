@@ -4,6 +4,8 @@
 //! that is stored, with the entry at its end.
 ghost use Rattle.std.specs.Prelude.{◌≡◌, ℕ, ◌&&◌, if◌then◌else◌, List, [], ◌∷◌, ◌++◌, length, ◌↔◌, IsTrue};
 ghost use Rattle.hr_rel.specs.declared.answer.Answer.{Answer};
+ghost use Rattle.hr_rel.specs.SameAnswer.{SameAnswer};
+ghost use Rattle.hr_answer.specs.Canonical.{IsCanonical};
 ghost use Rattle.hr_engine.specs.Journal.{Journal};
 ghost use Rattle.hr_engine.specs.Base.{IsSoundCount};
 ghost use Rattle.hr_history.specs.declared.entry.Entry.{Entry};
@@ -16,7 +18,7 @@ ghost use Rattle.hr_history.specs.Primary.{primary_of, search_after, candidate_o
 ghost use Rattle.hr_history.specs.Turn.{turn_start, replies_to_runs, fresh_of, went, bad_count, owed, is_sound_count, next_replies, next_fresh, next_went, next_bad_count, owed_after};
 ghost use Rattle.hr_history.specs.Replies.{reply_to, refusal_of, next_reply, next_refusal};
 ghost use Rattle.hr_history.specs.Rules.{due};
-ghost use Rattle.hr_history.specs.SameAnswers.{same_answer};
+ghost use Rattle.hr_history.specs.SameAnswers.{same_answer, is_canonical};
 ghost use Rattle.hr_history.specs.Faithful.{is_begun, is_next, Begun, Faithful};
 ghost use Rattle.hr_history.specs.Turns.{IsMadeOfTurns};
 ghost use Rattle.hr_history.specs.View.{View, view_of};
@@ -82,6 +84,13 @@ pub fn sound_counts()
 /// Answers count as the same exactly where they are one and the same.
 pub fn equal_answers()
     ensures { (a b : Answer) → IsTrue (same_answer a b) ↔ (a ≡ b) }
+{}
+
+/// An answer passes the test of canonical ones exactly where its rows, if it has some, are sorted. Canonical answers count
+/// as the same exactly where they are equal: the same count, the same failure, or the same rows as often, in any order.
+pub fn canonical_answers()
+    ensures test { (a : Answer) → IsTrue (is_canonical a) ↔ IsCanonical a }
+    ensures same { (a b : Answer) → IsCanonical a → IsCanonical b → IsTrue (same_answer a b) ↔ SameAnswer a b }
 {}
 
 /// The view of a history that has begun rightly is, with one more entry, the step of the view before it.
