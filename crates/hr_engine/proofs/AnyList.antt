@@ -1,7 +1,6 @@
 -- In a rigorous journal the attempts of any different transactions, running or not, can be played in any order.
-use Rattle.std.proofs.Common.{◌≡◌, ℕ, Bool, true, false, cond, not, IsTrue, List, [], ◌∷◌, map, refl, ap, subst, sym}
+use Rattle.std.proofs.Common.{◌≡◌, ℕ, Bool, true, false, cond, not, IsTrue, List, [], ◌∷◌, map, refl, subst, sym}
 use Rattle.std.specs.List.{filter, list_all, AllZip}
-use Rattle.std.proofs.lemmas.Bool.{and_parts, and_from}
 use Rattle.hr_rel.specs.Database.{Database}
 use Rattle.hr_rel.specs.Serial.{play, serial_answers}
 use Rattle.hr_rel.specs.SameAnswer.{SameAnswer}
@@ -9,27 +8,12 @@ use Rattle.hr_engine.specs.Journal.{Journal}
 use Rattle.hr_engine.specs.Attempts.{Step, attempt, statements, answers, is_running}
 use Rattle.hr_engine.specs.Base.{base}
 use Rattle.hr_engine.specs.Rigorous.{InOrder, AnyOrder, Rigorous}
-use Rattle.hr_engine.specs.Lists.{has, is_empty, is_distinct}
-use Rattle.hr_engine.proofs.ListLaws.{all_from_has, has-filter}
+use Rattle.hr_engine.specs.Lists.{is_empty, is_distinct}
+use Rattle.hr_engine.proofs.ListLaws.{all_from_has, has-filter, filter_distinct}
 
 nothing_done : (steps : List Step) → not (is_empty steps) ≡ false → steps ≡ []
 nothing_done [] h = refl
 nothing_done (s ∷ steps) h = cc
-
--- a filter keeps different transactions different
-distinct_step : (p : ℕ → Bool) (t : ℕ) (ts : List ℕ) (b : Bool) → IsTrue (not (has ts t)) → IsTrue (is_distinct (filter p ts)) → IsTrue (is_distinct (cond b (t ∷ filter p ts) (filter p ts)))
-distinct_step p t ts false new rest = rest
-distinct_step p t ts true new rest = and_from (not (has (filter p ts) t)) _ (absent (has (filter p ts) t) refl) rest
-  where
-    absent : (b : Bool) → has (filter p ts) t ≡ b → not b ≡ true
-    absent false e = refl
-    absent true e = let there : has ts t ≡ true = (has-filter p ts t e).1 in cc (ap not there)
-
-filter_distinct : (p : ℕ → Bool) (ts : List ℕ) → IsTrue (is_distinct ts) → IsTrue (is_distinct (filter p ts))
-filter_distinct p [] distinct = refl
-filter_distinct p (t ∷ ts) distinct =
-    let parts = and_parts (not (has ts t)) (is_distinct ts) distinct in
-    distinct_step p t ts (p t) parts.0 (filter_distinct p ts parts.1)
 
 module _ (journal : Journal) where
   -- played from this database, in this order

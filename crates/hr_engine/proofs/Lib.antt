@@ -4,6 +4,7 @@ pub mod SameAnswers
 pub mod Orders
 pub mod AttemptLaws
 pub mod WaitLaws
+pub mod StandingLaws
 pub mod BaseLaws
 pub mod StopLaws
 pub mod AnyList

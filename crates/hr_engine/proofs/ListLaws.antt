@@ -1,8 +1,8 @@
 -- Laws of lists of transactions.
-use Rattle.std.proofs.Common.{◌≡◌, ℕ, Bool, true, false, cond, ◌==◌, inl, inr, List, [], ◌∷◌, refl, ap, ◌∙◌, sym}
+use Rattle.std.proofs.Common.{◌≡◌, ℕ, Bool, true, false, cond, not, ◌&&◌, ◌==◌, inl, inr, IsTrue, List, [], ◌∷◌, refl, ap, ◌∙◌, sym}
 use Rattle.std.specs.List.{filter, list_all}
 use Rattle.std.proofs.lemmas.Bool.{and_parts, and_from, or_cases, or_right, or_left, eq-eqb, eqb-true}
-use Rattle.hr_engine.specs.Lists.{has}
+use Rattle.hr_engine.specs.Lists.{has, is_distinct, once}
 
 -- a test of what is the same transaction
 pub if_same : (p : ℕ → Bool) (t u : ℕ) → (t == u) ≡ true → p t ≡ p u
@@ -58,3 +58,37 @@ has_kept p u t ts true e h rest =
 pub has-filter : (p : ℕ → Bool) (ts : List ℕ) (t : ℕ) → has (filter p ts) t ≡ true → (p t ≡ true) × (has ts t ≡ true)
 has-filter p [] t h = cc
 has-filter p (u ∷ ts) t h = has_kept p u t ts (p u) refl h (has-filter p ts t)
+
+-- a filter keeps different transactions different
+distinct_step : (p : ℕ → Bool) (t : ℕ) (ts : List ℕ) (b : Bool) → IsTrue (not (has ts t)) → IsTrue (is_distinct (filter p ts)) → IsTrue (is_distinct (cond b (t ∷ filter p ts) (filter p ts)))
+distinct_step p t ts false new rest = rest
+distinct_step p t ts true new rest = and_from (not (has (filter p ts) t)) _ (absent (has (filter p ts) t) refl) rest
+  where
+    absent : (b : Bool) → has (filter p ts) t ≡ b → not b ≡ true
+    absent false e = refl
+    absent true e = let there : has ts t ≡ true = (has-filter p ts t e).1 in cc (ap not there)
+
+pub filter_distinct : (p : ℕ → Bool) (ts : List ℕ) → IsTrue (is_distinct ts) → IsTrue (is_distinct (filter p ts))
+filter_distinct p [] distinct = refl
+filter_distinct p (t ∷ ts) distinct =
+    let parts = and_parts (not (has ts t)) (is_distinct ts) distinct in
+    distinct_step p t ts (p t) parts.0 (filter_distinct p ts parts.1)
+
+-- each of a list once is a list of different ones
+not_itself : (t : ℕ) (ts : List ℕ) (b : Bool) → has (filter (λ u. not (u == t)) ts) t ≡ b → not b ≡ true
+not_itself t ts false e = refl
+not_itself t ts true e =
+    let other : not (t == t) ≡ true = (has-filter (λ u. not (u == t)) ts t e).0 in
+    let same : not (t == t) ≡ false = ap not (eq-eqb t t refl) in
+    cc
+
+pub once_distinct : (ts : List ℕ) → IsTrue (is_distinct (once ts))
+once_distinct [] = refl
+once_distinct (t ∷ ts) =
+    let others = filter (λ (u : ℕ). not (u == t)) (once ts) in
+    and_from (not (has others t)) (is_distinct others) (not_itself t (once ts) (has others t) refl) (filter_distinct (λ u. not (u == t)) (once ts) (once_distinct ts))
+
+-- tests that agree on the members of a list are passed by all of it or by neither
+pub all_agree_on : (p q : ℕ → Bool) (ts : List ℕ) → ((t : ℕ) → has ts t ≡ true → p t ≡ q t) → list_all p ts ≡ list_all q ts
+all_agree_on p q [] agree = refl
+all_agree_on p q (u ∷ ts) agree = λ i. agree u (has_head u ts) i && all_agree_on p q ts (λ t h. agree t (has_tail t u ts h)) i

@@ -1,22 +1,44 @@
 -- What one more call makes of waits.
-use Rattle.std.proofs.Common.{◌≡◌, ℕ, Bool, true, false, cond, not, ◌==◌, List, [], ◌∷◌, ◌++◌, refl, ap, ◌∙◌}
+use Rattle.std.proofs.Common.{◌≡◌, ℕ, Bool, true, false, cond, not, ◌==◌, IsTrue, List, [], ◌∷◌, ◌++◌, refl, ap, ◌∙◌}
 use Rattle.std.specs.List.{filter}
 use Rattle.std.proofs.lemmas.Bool.{or_right, and_left}
 use Rattle.hr_rel.specs.declared.answer.Answer.{Answer}
 use Rattle.hr_rel.specs.declared.stmt.Stmt.{Stmt}
 use Rattle.hr_engine.specs.declared.reply.RunReply.TheVariants as run
 use Rattle.hr_engine.specs.declared.reply.EndReply.TheVariants as end
-use Rattle.hr_engine.specs.Journal.{Call, Ran, Committed, RolledBack, Journal}
+use Rattle.hr_engine.specs.Journal.{Call, Ran, Committed, RolledBack, Restarted, Journal}
 use Rattle.hr_engine.specs.Attempts.{attempt, is_running}
 use Rattle.hr_engine.specs.Waits.{wait, next_wait, is_chain, Leads}
-use Rattle.hr_engine.specs.Lists.{has, is_empty, once}
-use Rattle.hr_engine.proofs.ListLaws.{filter_all, filter_agree_on, has-filter}
+use Rattle.hr_engine.specs.Lists.{has, is_empty, is_distinct, once}
+use Rattle.hr_engine.proofs.ListLaws.{filter_all, filter_agree_on, has-filter, filter_distinct, once_distinct}
 use Rattle.hr_engine.proofs.AttemptLaws.{same_txn, other_txn, is_running-done}
 
 -- who is waited for runs
 pub wait_runs : (t u : ℕ) (journal : Journal) → has (wait t journal) u ≡ true → is_running u journal ≡ true
 wait_runs t u [] h = cc
 wait_runs t u (call ∷ before) h = (has-filter (λ x. is_running x (call ∷ before)) (next_wait t call (wait t before)) u h).0
+
+-- a wait names each transaction once
+distinct_if : (b : Bool) (ts us : List ℕ) → IsTrue (is_distinct ts) → IsTrue (is_distinct us) → IsTrue (is_distinct (cond b ts us))
+distinct_if true ts us h k = h
+distinct_if false ts us h k = k
+
+next_distinct : (t : ℕ) (call : Call) (named : List ℕ) → IsTrue (is_distinct named) → IsTrue (is_distinct (next_wait t call named))
+next_distinct t (Ran u stmt (run.Done answer)) named h = distinct_if (t == u) [] named refl h
+next_distinct t (Ran u stmt (run.Blocked them)) named h = distinct_if (t == u) (once them) named (once_distinct them) h
+next_distinct t (Ran u stmt (run.Deadlock cycle)) named h = distinct_if (t == u) [] named refl h
+next_distinct t (Ran u stmt run.Lost) named h = refl
+next_distinct t (Ran u stmt run.NoMemory) named h = h
+next_distinct t (Committed u end.Done) named h = distinct_if (t == u) [] named refl h
+next_distinct t (Committed u end.Lost) named h = refl
+next_distinct t (RolledBack u end.Done) named h = distinct_if (t == u) [] named refl h
+next_distinct t (RolledBack u end.Lost) named h = refl
+next_distinct t (Restarted told) named h = refl
+
+pub wait_distinct : (t : ℕ) (journal : Journal) → IsTrue (is_distinct (wait t journal))
+wait_distinct t [] = refl
+wait_distinct t (call ∷ before) =
+    filter_distinct (λ u. is_running u (call ∷ before)) (next_wait t call (wait t before)) (next_distinct t call (wait t before) (wait_distinct t before))
 
 -- a transaction that waits for nobody begins no chain
 pub no_chain : (waits : ℕ → List ℕ) (t u : ℕ) (path : List ℕ) → waits t ≡ [] → is_chain waits (t ∷ path ++ u ∷ []) ≡ false
@@ -75,7 +97,7 @@ module _ (journal : Journal) (t : ℕ) where
   wait-rolled_back = ap (filter (λ u. is_running u (RolledBack t end.Done ∷ journal))) (same_txn t [] (wait t journal))
 
   -- of those that ran, the ended one alone stops
-  still_runs : (x : ℕ) (b : Bool) → (x == t) ≡ b → is_running x journal ≡ true → not (is_empty (cond b [] (attempt x journal))) ≡ not b
+  pub still_runs : (x : ℕ) (b : Bool) → (x == t) ≡ b → is_running x journal ≡ true → not (is_empty (cond b [] (attempt x journal))) ≡ not b
   still_runs x true e runs = refl
   still_runs x false e runs = runs
 
