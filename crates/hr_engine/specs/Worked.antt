@@ -45,3 +45,30 @@ in_doubt = in_order (inserts 1 5 50 ∷ Committed 1 end.Lost ∷ [])
 -- the restart after it tells this count
 abbrev pub restarted : ℕ → Journal
 restarted told = in_order (inserts 1 5 50 ∷ Committed 1 end.Lost ∷ Restarted (Ok told) ∷ [])
+
+-- transaction 1 inserts a row and commits
+abbrev pub committed : Journal
+committed = in_order (inserts 1 5 50 ∷ Committed 1 end.Done ∷ [])
+
+-- or is rolled back
+abbrev pub rolled_back : Journal
+rolled_back = in_order (inserts 1 5 50 ∷ RolledBack 1 end.Done ∷ [])
+
+-- or is running when its backend is restarted, or lost
+abbrev pub restarted_within : Journal
+restarted_within = in_order (inserts 1 5 50 ∷ Restarted (Ok 0) ∷ [])
+
+abbrev pub lost_within : Journal
+lost_within = in_order (inserts 1 5 50 ∷ Ran 1 (select_v 5) run.Lost ∷ [])
+
+-- transaction t asks for the row with the key id, and is told that it and one other would wait for each other
+abbrev pub closes_cycle : ℕ → ℕ → ℕ → Call
+closes_cycle t id other = Ran t (select_v id) (run.Deadlock (t ∷ other ∷ []))
+
+-- two transactions would wait for each other, and the second is told so; what comes later is given
+abbrev pub deadlocked : List Call → Journal
+deadlocked later = in_order (inserts 1 5 50 ∷ inserts 2 6 60 ∷ waits_for 1 6 2 ∷ closes_cycle 2 5 1 ∷ later)
+
+-- the second is told so where the first doesn't wait
+abbrev pub deadlock_made_up : Journal
+deadlock_made_up = in_order (inserts 1 5 50 ∷ inserts 2 6 60 ∷ closes_cycle 2 5 1 ∷ [])

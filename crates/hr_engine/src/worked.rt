@@ -1,12 +1,14 @@
 //! Worked journals. Each function does nothing; what it ensures is computed from the definitions, so a reader can hold
 //! them against journals worked out by hand.
-ghost use Rattle.std.specs.Prelude.{◌≡◌, [], ◌∷◌, true};
+ghost use Rattle.std.specs.Prelude.{◌≡◌, [], ◌∷◌, true, false, Some, None};
 ghost use Rattle.hr_rel.specs.Worked.{holding, row};
 ghost use Rattle.hr_engine.specs.Attempts.{is_running};
-ghost use Rattle.hr_engine.specs.Waits.{wait};
-ghost use Rattle.hr_engine.specs.Base.{base, bases};
-ghost use Rattle.hr_engine.specs.Rigorous.{Rigorous};
-ghost use Rattle.hr_engine.specs.Worked.{two_open, read_uncommitted, cycle_blocked, runs_again, in_doubt, restarted};
+ghost use Rattle.hr_engine.specs.declared.reply.EndReply.TheVariants as end;
+ghost use Rattle.hr_engine.specs.Journal.{RolledBack};
+ghost use Rattle.hr_engine.specs.Waits.{wait, standing};
+ghost use Rattle.hr_engine.specs.Base.{base, bases, count};
+ghost use Rattle.hr_engine.specs.Rigorous.{IsSound, Rigorous};
+ghost use Rattle.hr_engine.specs.Worked.{two_open, read_uncommitted, cycle_blocked, runs_again, in_doubt, restarted, in_order, inserts, waits_for, committed, rolled_back, restarted_within, lost_within, closes_cycle, deadlocked, deadlock_made_up};
 
 /// Two transactions are open at once, and what they were answered doesn't depend on their order.
 pub fn two_attempts_open()
@@ -47,4 +49,37 @@ pub fn commit_in_doubt()
 /// A restart told a count that is neither.
 pub fn wrong_restart_count()
     ensures { Rigorous (holding []) (restarted 2) → ⊥ }
+{}
+
+/// A commit ends its transaction, counts, and leaves what its statements did.
+pub fn commit_that_counts()
+    ensures ended { is_running 1 committed ≡ false }
+    ensures counts { count committed ≡ 1 }
+    ensures base { base (holding []) committed ≡ holding (row 5 50 ∷ []) }
+{}
+
+/// A rollback ends its transaction, and leaves nothing of it.
+pub fn rollback_that_leaves_nothing()
+    ensures ended { is_running 1 rolled_back ≡ false }
+    ensures counts { count rolled_back ≡ 0 }
+    ensures base { base (holding []) rolled_back ≡ holding [] }
+{}
+
+/// Neither a restart nor a loss leaves anything running.
+pub fn nothing_runs_on()
+    ensures restarted { is_running 1 restarted_within ≡ false }
+    ensures lost { is_running 1 lost_within ≡ false }
+{}
+
+/// A Deadlock reply stands until a member of its cycle stops, also where that one runs again, or until its asker runs on.
+pub fn deadlock_that_stands()
+    ensures stands { standing 2 (deadlocked []) ≡ Some (2 ∷ 1 ∷ []) }
+    ensures broken { standing 2 (deadlocked (RolledBack 1 end.Done ∷ inserts 1 5 50 ∷ [])) ≡ None }
+    ensures ran_on { standing 2 (deadlocked (inserts 2 7 70 ∷ [])) ≡ None }
+{}
+
+/// A Deadlock reply is sound where each of its cycle waits for the next, and not where one doesn't.
+pub fn cycles_of_waits()
+    ensures sound { IsSound (closes_cycle 2 5 1) (in_order (inserts 1 5 50 ∷ inserts 2 6 60 ∷ waits_for 1 6 2 ∷ [])) }
+    ensures made_up { Rigorous (holding []) deadlock_made_up → ⊥ }
 {}
