@@ -1,7 +1,8 @@
 -- The journals of the worked runs, over `table t (id int key, v int)`.
-use Rattle.std.specs.Prelude.{ℕ, Ok, List, [], ◌∷◌, reverse}
+use Rattle.std.specs.Prelude.{ℕ, Ok, Err, List, [], ◌∷◌, reverse}
 use Rattle.hr_rel.specs.declared.answer.Answer.TheVariants.{Rows, Count}
 use Rattle.hr_rel.specs.Worked.{one, insert, select_v}
+use Rattle.hr_engine.specs.declared.reply.Lost.{Lost}
 use Rattle.hr_engine.specs.declared.reply.RunReply.TheVariants as run
 use Rattle.hr_engine.specs.declared.reply.EndReply.TheVariants as end
 use Rattle.hr_engine.specs.Journal.{Call, Ran, Committed, RolledBack, Restarted, Journal}
@@ -72,3 +73,19 @@ deadlocked later = in_order (inserts 1 5 50 ∷ inserts 2 6 60 ∷ waits_for 1 6
 -- the second is told so where the first doesn't wait
 abbrev pub deadlock_made_up : Journal
 deadlock_made_up = in_order (inserts 1 5 50 ∷ inserts 2 6 60 ∷ closes_cycle 2 5 1 ∷ [])
+
+-- transaction 2 waits for 1; what comes later is given
+abbrev pub waiting : List Call → Journal
+waiting later = in_order (inserts 1 5 50 ∷ waits_for 2 5 1 ∷ later)
+
+-- a commit is in doubt, another call is answered Lost, and a restart fails
+abbrev pub in_doubt_longer : Lost → Journal
+in_doubt_longer why = in_order (inserts 1 5 50 ∷ Committed 1 end.Lost ∷ Ran 2 (select_v 5) run.Lost ∷ Restarted (Err why) ∷ [])
+
+-- a commit is answered Lost after another call
+abbrev pub commit_after : Call → Journal
+commit_after call = in_order (inserts 1 5 50 ∷ call ∷ Committed 1 end.Lost ∷ [])
+
+-- a restart ends a loss, and a commit is answered Lost
+abbrev pub lost_again : Journal
+lost_again = in_order (Ran 1 (select_v 5) run.Lost ∷ Restarted (Ok 0) ∷ inserts 1 5 50 ∷ Committed 1 end.Lost ∷ [])

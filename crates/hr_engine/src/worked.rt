@@ -1,14 +1,16 @@
 //! Worked journals. Each function does nothing; what it ensures is computed from the definitions, so a reader can hold
 //! them against journals worked out by hand.
-ghost use Rattle.std.specs.Prelude.{◌≡◌, [], ◌∷◌, true, false, Some, None};
-ghost use Rattle.hr_rel.specs.Worked.{holding, row};
+ghost use Rattle.std.specs.Prelude.{◌≡◌, [], ◌∷◌, true, false, Some, None, Err};
+ghost use Rattle.hr_rel.specs.Worked.{holding, row, select_v};
 ghost use Rattle.hr_engine.specs.Attempts.{is_running};
+ghost use Rattle.hr_engine.specs.declared.reply.Lost.{Lost};
+ghost use Rattle.hr_engine.specs.declared.reply.RunReply.TheVariants as run;
 ghost use Rattle.hr_engine.specs.declared.reply.EndReply.TheVariants as end;
-ghost use Rattle.hr_engine.specs.Journal.{RolledBack};
-ghost use Rattle.hr_engine.specs.Waits.{wait, standing};
+ghost use Rattle.hr_engine.specs.Journal.{Ran, Committed, RolledBack, Restarted};
+ghost use Rattle.hr_engine.specs.Waits.{wait, standing, is_list_of_running};
 ghost use Rattle.hr_engine.specs.Base.{base, bases, count};
 ghost use Rattle.hr_engine.specs.Rigorous.{IsSound, Rigorous};
-ghost use Rattle.hr_engine.specs.Worked.{two_open, read_uncommitted, cycle_blocked, runs_again, in_doubt, restarted, in_order, inserts, waits_for, committed, rolled_back, restarted_within, lost_within, closes_cycle, deadlocked, deadlock_made_up};
+ghost use Rattle.hr_engine.specs.Worked.{two_open, read_uncommitted, cycle_blocked, runs_again, in_doubt, restarted, in_order, inserts, waits_for, committed, rolled_back, restarted_within, lost_within, closes_cycle, waiting, in_doubt_longer, commit_after, lost_again, deadlocked, deadlock_made_up};
 
 /// Two transactions are open at once, and what they were answered doesn't depend on their order.
 pub fn two_attempts_open()
@@ -69,6 +71,39 @@ pub fn rollback_that_leaves_nothing()
 pub fn nothing_runs_on()
     ensures restarted { is_running 1 restarted_within ≡ false }
     ensures lost { is_running 1 lost_within ≡ false }
+{}
+
+/// A commit is in doubt where the loss begins at it, and as long as the loss lasts.
+pub fn doubt_that_lasts()
+    ensures lasts { (why : Lost) → bases (holding []) (in_doubt_longer why) ≡ holding [] ∷ holding (row 5 50 ∷ []) ∷ [] }
+    ensures not_made { bases (holding []) (restarted 0) ≡ holding [] ∷ [] }
+    ensures made { bases (holding []) (restarted 1) ≡ holding (row 5 50 ∷ []) ∷ [] }
+    ensures next_loss { bases (holding []) lost_again ≡ holding [] ∷ holding (row 5 50 ∷ []) ∷ [] }
+{}
+
+/// A commit isn't in doubt where the loss began before it.
+pub fn commit_within_a_loss()
+    ensures run { bases (holding []) (commit_after (Ran 1 (select_v 5) run.Lost)) ≡ holding [] ∷ [] }
+    ensures rollback { bases (holding []) (commit_after (RolledBack 1 end.Lost)) ≡ holding [] ∷ [] }
+    ensures restart { (why : Lost) → bases (holding []) (commit_after (Restarted (Err why))) ≡ holding [] ∷ [] }
+{}
+
+/// A wait is over once the transaction that waits is answered otherwise, or ends.
+pub fn wait_that_ends()
+    ensures waits { wait 2 (waiting []) ≡ 1 ∷ [] }
+    ensures ran_on { wait 2 (waiting (inserts 2 7 70 ∷ [])) ≡ [] }
+    ensures told_otherwise { wait 2 (waiting (closes_cycle 2 5 1 ∷ [])) ≡ [] }
+    ensures committed { wait 2 (waiting (Committed 2 end.Done ∷ [])) ≡ [] }
+    ensures rolled_back { wait 2 (waiting (RolledBack 2 end.Done ∷ [])) ≡ [] }
+{}
+
+/// A Blocked reply names some, in ascending order, not the asker, and none that doesn't run.
+pub fn lists_of_blocked()
+    ensures both { is_list_of_running (λ t. is_running t two_open) 3 (1 ∷ 2 ∷ []) ≡ true }
+    ensures nobody { is_list_of_running (λ t. is_running t two_open) 3 [] ≡ false }
+    ensures descending { is_list_of_running (λ t. is_running t two_open) 3 (2 ∷ 1 ∷ []) ≡ false }
+    ensures asker { is_list_of_running (λ t. is_running t two_open) 2 (1 ∷ 2 ∷ []) ≡ false }
+    ensures idle { is_list_of_running (λ t. is_running t two_open) 3 (1 ∷ 4 ∷ []) ≡ false }
 {}
 
 /// A Deadlock reply stands until a member of its cycle stops, also where that one runs again, or until its asker runs on.
