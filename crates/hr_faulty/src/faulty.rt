@@ -1,4 +1,4 @@
-ghost use Rattle.std.specs.Prelude.{◌≡◌, ◌+◌, ◌≤◌, ◌&&◌, ◌||◌, if◌then◌else◌, not, true, [], List, IfOk, IsTrue, Some, option_copied};
+ghost use Rattle.std.specs.Prelude.{◌≡◌, ◌+◌, ◌≤◌, ◌&&◌, ◌||◌, if◌then◌else◌, not, true, false, [], List, IfOk, IsTrue, Some, option_copied};
 ghost use Rattle.hr_rel.specs.Database.{Database};
 ghost use Rattle.hr_engine.specs.declared.reply.RunReply.TheVariants as reply;
 ghost use Rattle.hr_engine.specs.Base.{shown};
@@ -33,6 +33,8 @@ impl<B: Backend> Faulty<B> {
         ensures stands { (start : Database) → B.stands inner start [] → ⟦<Faulty<B> as Backend>⟧.stands result start [] }
         ensures make { ⟦<Faulty<B> as Backend>⟧.make result ≡ make_over (B.make inner) script.items }
         ensures honest { ⟦<Faulty<B> as Backend>⟧.is_honest result ≡ B.is_honest inner && not (lies script.items) }
+        ensures lost { ⟦<Faulty<B> as Backend>⟧.is_lost result ≡ false }
+        ensures losses { ⟦<Faulty<B> as Backend>⟧.losses result ≡ 0 }
     {
         Faulty {
             inner,
