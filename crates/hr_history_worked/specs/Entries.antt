@@ -33,6 +33,9 @@ submit s t i stmt = by (3 + s) (event.Submit t i stmt)
 abbrev pub ask_commit : ℕ → ℕ → Entry
 ask_commit s t = by (3 + s) (event.AskCommit t)
 
+abbrev pub ask_rollback : ℕ → ℕ → Entry
+ask_rollback s t = by (3 + s) (event.AskRollback t)
+
 abbrev pub take : ℕ → Job → Entry
 take r job = by (r + 1) (event.Take r job)
 
@@ -46,12 +49,22 @@ blocked r named = by (r + 1) (event.Give r (reply.Ran (run.Blocked named)))
 abbrev pub deadlock : ℕ → List ℕ → Entry
 deadlock r cycle = by (r + 1) (event.Give r (reply.Ran (run.Deadlock cycle)))
 
+abbrev pub run_lost : ℕ → Entry
+run_lost r = by (r + 1) (event.Give r (reply.Ran run.Lost))
+
+abbrev pub no_memory : ℕ → Entry
+no_memory r = by (r + 1) (event.Give r (reply.Ran run.NoMemory))
+
 -- its replies to a commit or a rollback
 abbrev pub ended : ℕ → Entry
 ended r = by (r + 1) (event.Give r (reply.Ended end.Done))
 
 abbrev pub lost : ℕ → Entry
 lost r = by (r + 1) (event.Give r (reply.Ended end.Lost))
+
+-- its replies to a restart
+abbrev pub still_lost : ℕ → Entry
+still_lost r = by (r + 1) (event.Give r reply.StillLost)
 
 abbrev pub restarted : ℕ → ℕ → Entry
 restarted r count = by (r + 1) (event.Restarted r count)

@@ -13,6 +13,12 @@ pub mod LossBeforeCommit
 pub mod WaitWithoutBreak
 pub mod BarrierCalls
 pub mod Broken
+pub mod Decisions
+pub mod Primaries
+pub mod GivingWay
+pub mod Losses
+pub mod NotAllowed
+pub mod OtherSizes
 pub mod Views
 pub mod States
 pub mod StaleVoteStates

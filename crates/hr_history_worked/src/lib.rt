@@ -4,7 +4,13 @@
 //! is faithful, and that one which doesn't isn't.
 #![tactic(auto)]
 
+pub mod allowed;
 pub mod broken;
+pub mod decisions;
 pub mod faithful;
+pub mod giving_way;
+pub mod losses;
+pub mod other_sizes;
+pub mod primaries;
 pub mod steps;
 pub mod views;
