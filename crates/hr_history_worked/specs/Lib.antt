@@ -18,6 +18,7 @@ pub mod Primaries
 pub mod GivingWay
 pub mod Losses
 pub mod NotAllowed
+pub mod WrongDetails
 pub mod OtherSizes
 pub mod Views
 pub mod States

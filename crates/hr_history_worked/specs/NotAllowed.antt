@@ -1,15 +1,11 @@
--- Histories whose last entry is a call that isn't allowed there, and two that follow up with wrong details.
+-- Histories whose last entry is a call that isn't allowed there, but for one that is.
 use Rattle.std.specs.Prelude.{List, [], ◌∷◌, ◌++◌, take as first}
 use Rattle.hr_rel.specs.declared.answer.Answer.TheVariants.{Rows}
 use Rattle.hr_rel.specs.Worked.{one, insert, select_v}
 use Rattle.hr_history.specs.declared.entry.Entry.{Entry}
 use Rattle.hr_history.specs.declared.entry.Event.TheVariants as event
 use Rattle.hr_history.specs.declared.job.Job.TheVariants.{Run, Rollback}
-use Rattle.hr_history.specs.declared.cause.CauseAt.TheVariants as cause
-use Rattle.hr_history.specs.declared.evidence.Evidence.TheVariants as evidence
-use Rattle.hr_history_worked.specs.Entries.{by, follows, begin, submit, ask_commit, ask_rollback, take, done, ended, restarted}
-use Rattle.hr_history_worked.specs.DeadlockAtPrimary.{deadlock_at_primary}
-use Rattle.hr_history_worked.specs.DroppedWrite.{dropped_write}
+use Rattle.hr_history_worked.specs.Entries.{by, begin, submit, ask_commit, ask_rollback, take, done, ended, restarted}
 use Rattle.hr_history_worked.specs.WrongRestartCount.{wrong_restart_count}
 use Rattle.hr_history_worked.specs.GivingWay.{rolled_back}
 
@@ -95,11 +91,3 @@ taken_by_a_convicted = wrong_restart_count ++ take 2 (Run 1 1) ∷ []
 -- a replica rolls back where nothing was answered
 abbrev pub rolled_back_untouched : List Entry
 rolled_back_untouched = first 20 rolled_back ++ take 2 (Rollback 1) ∷ []
-
--- the second answer differs, not the first
-abbrev pub convicted_for_another_answer : List Entry
-convicted_for_another_answer = first 17 dropped_write ++ follows 4 (event.Convict 2 (evidence.Differs 1 1)) ∷ []
-
--- a refusal names the place of its cause
-abbrev pub refused_for_another_reply : List Entry
-refused_for_another_reply = first 14 deadlock_at_primary ++ follows 1 (event.Refuse 2 (cause.Deadlock 10)) ∷ []

@@ -2,7 +2,7 @@
 ghost use Rattle.std.specs.Prelude.{◌≡◌, true, false};
 ghost use Rattle.hr_history.specs.History.{history_of};
 ghost use Rattle.hr_history.specs.Faithful.{is_begun};
-ghost use Rattle.hr_history_worked.specs.NotAllowed.{begun_while_open, begun_with_a_later_number, begun_by_another, begun_by_session_0, begun_by_session_3, submitted_to_anothers, submitted_to_an_ended_one, submitted_with_a_later_number, submitted_while_waiting, asked_while_waiting, rolled_back_while_waiting, taken_by_another, taken_with_another_index, taken_while_one_is_out, taken_by_a_convicted, rolled_back_untouched, run_ended, answered_unasked, answered_unsorted, answered_sorted, restarted_untold, convicted_for_another_answer, refused_for_another_reply};
+ghost use Rattle.hr_history_worked.specs.NotAllowed.{begun_while_open, begun_with_a_later_number, begun_by_another, begun_by_session_0, begun_by_session_3, submitted_to_anothers, submitted_to_an_ended_one, submitted_with_a_later_number, submitted_while_waiting, asked_while_waiting, rolled_back_while_waiting, taken_by_another, taken_with_another_index, taken_while_one_is_out, taken_by_a_convicted, rolled_back_untouched, run_ended, answered_unasked, answered_unsorted, answered_sorted, restarted_untold};
 
 /// A session of the history's begins, by its own caller, with the next number, while it has no open transaction.
 pub fn begins()
@@ -39,10 +39,4 @@ pub fn replies()
     ensures answered_unsorted { is_begun 1 2 (history_of answered_unsorted) ≡ false }
     ensures answered_sorted { is_begun 1 2 (history_of answered_sorted) ≡ true }
     ensures restarted_untold { is_begun 1 2 (history_of restarted_untold) ≡ false }
-{}
-
-/// What follows tells which answer, and which place.
-pub fn details()
-    ensures convicted_for_another_answer { is_begun 1 2 (history_of convicted_for_another_answer) ≡ false }
-    ensures refused_for_another_reply { is_begun 1 2 (history_of refused_for_another_reply) ≡ false }
 {}

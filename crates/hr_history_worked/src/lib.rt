@@ -7,6 +7,7 @@
 pub mod allowed;
 pub mod broken;
 pub mod decisions;
+pub mod details;
 pub mod faithful;
 pub mod giving_way;
 pub mod losses;
