@@ -7,7 +7,7 @@ use Rattle.hr_history.specs.declared.entry.Event.TheVariants as event
 use Rattle.hr_history.specs.declared.job.Job.TheVariants.{Run, Commit, Rollback, Restart}
 use Rattle.hr_history.specs.declared.cause.CauseAt.TheVariants as cause
 use Rattle.hr_history.specs.declared.cause.Why.TheVariants as why
-use Rattle.hr_history_worked.specs.Entries.{follows, begin, submit, ask_commit, take, done, run_lost, no_memory, ended, lost, still_lost, restarted, suspect}
+use Rattle.hr_history_worked.specs.Entries.{follows, begin, submit, ask_commit, take, done, run_lost, ended, lost, still_lost, restarted, suspect}
 
 -- the primary is suspected, and again the primary as the others are lost; what it tells of the refused transaction changes nothing
 abbrev pub told_too_late : List Entry
@@ -25,7 +25,7 @@ told_too_late =
     suspect ∷
     follows 0 (event.Refuse 1 (cause.PrimaryChanged 0 why.Suspected 10)) ∷
     follows 0 (event.NewPrimary 0) ∷
-    no_memory 0 ∷
+    done 0 (Count 2) ∷
     []
 
 -- Two suspicions, the second without a primary: both open transactions are refused, and the candidate after the first one becomes primary once it has caught up. A third suspicion, and the search goes round to replica 0.

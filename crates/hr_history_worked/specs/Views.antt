@@ -1,9 +1,9 @@
--- The views that four worked histories are to have, written out from what happened in them.
+-- The views that five worked histories are to have, written out from what happened in them.
 use Rattle.std.specs.Prelude.{ℕ, true, false, Option, Some, None, List, [], ◌∷◌}
 use Rattle.hr_rel.specs.declared.answer.Answer.{Answer}
 use Rattle.hr_rel.specs.declared.answer.Answer.TheVariants.{Rows, Count}
 use Rattle.hr_rel.specs.Worked.{one}
-use Rattle.hr_engine.specs.declared.reply.RunReply.TheVariants.{Done, Blocked}
+use Rattle.hr_engine.specs.declared.reply.RunReply.TheVariants.{Done, Blocked, Lost}
 use Rattle.hr_history.specs.declared.phase.Phase.{Phase}
 use Rattle.hr_history.specs.declared.phase.Phase.TheVariants.{Active, Asked, Logged, Refused}
 use Rattle.hr_history.specs.declared.phase.Last.TheVariants as last
@@ -40,6 +40,10 @@ convicted position attempts = record { lost = false; convicted = true; position 
 -- a lost replica, whose last commit is in doubt
 abbrev pub in_doubt : ℕ → List (ℕ × Attempt) → Progress
 in_doubt position attempts = record { lost = true; convicted = false; position = position; doubt = true; out = None; attempts = attempts }
+
+-- a lost replica with no commit in doubt
+abbrev pub lost : ℕ → List (ℕ × Attempt) → Progress
+lost position attempts = record { lost = true; convicted = false; position = position; doubt = false; out = None; attempts = attempts }
 
 abbrev pub reply_by : ℕ → ℕ → Option Fresh
 reply_by r t = Some record { replica = r; txn = t }
@@ -116,5 +120,18 @@ waits_for_nobody = record {
   primary = Some 0;
   search_after = 0;
   replies = Blocked [] ∷ [];
+  fresh = reply_by 0 1;
+}
+
+-- `primary_lost_in_run`, right after the primary was lost: nothing is left of the attempt there
+abbrev pub run_lost : View
+run_lost = record {
+  f = 1;
+  log = [];
+  txns = txn 1 2 (given (Count 1) 0 ∷ []) Active ∷ txn 2 0 [] Active ∷ [];
+  replicas = lost 0 ((1, over) ∷ []) ∷ live 0 ((1, running (Count 1 ∷ []) (6 ∷ [])) ∷ []) ∷ live 0 [] ∷ [];
+  primary = None;
+  search_after = 0;
+  replies = Done (Count 1) ∷ Done (Count 1) ∷ Lost ∷ [];
   fresh = reply_by 0 1;
 }
