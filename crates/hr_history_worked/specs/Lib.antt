@@ -20,6 +20,7 @@ pub mod Losses
 pub mod NotAllowed
 pub mod WrongDetails
 pub mod OtherSizes
+pub mod WithinTurns
 pub mod Views
 pub mod States
 pub mod StaleVoteStates

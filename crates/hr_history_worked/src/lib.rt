@@ -15,3 +15,4 @@ pub mod other_sizes;
 pub mod primaries;
 pub mod steps;
 pub mod views;
+pub mod within_turns;
