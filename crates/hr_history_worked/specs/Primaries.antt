@@ -101,3 +101,16 @@ primary_lost_in_commit =
     ended 1 ∷
     follows 2 (event.NewPrimary 1) ∷
     []
+
+-- the primary is suspected when the transaction has its answer; that stays the reply, and the session may begin again
+abbrev pub refused_after_its_answer : List Entry
+refused_after_its_answer =
+    begin 1 1 ∷
+    submit 1 1 1 (insert 1 1) ∷
+    take 0 (Run 1 1) ∷
+    done 0 (Count 1) ∷
+    suspect ∷
+    follows 0 (event.Refuse 1 (cause.PrimaryChanged 0 why.Suspected 4)) ∷
+    follows 0 (event.NewPrimary 1) ∷
+    begin 1 2 ∷
+    []

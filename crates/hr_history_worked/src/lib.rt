@@ -13,6 +13,7 @@ pub mod giving_way;
 pub mod losses;
 pub mod other_sizes;
 pub mod primaries;
+pub mod replies;
 pub mod steps;
 pub mod views;
 pub mod within_turns;
