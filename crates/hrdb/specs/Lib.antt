@@ -1,3 +1,4 @@
 pub mod Replay
 pub mod Top
 pub mod Worked
+pub mod Told

@@ -1,4 +1,7 @@
 //! What a person is told of a run that didn't end well.
+ghost use Rattle.std.specs.Prelude.{◌≡◌};
+ghost use Rattle.hrdb.specs.Told as spec;
+
 use crate::Status;
 use hr_scenario::InputKind;
 use thiserror::Error;
@@ -19,7 +22,9 @@ pub enum Fault {
 }
 
 /// The fault of a status; none where there is nothing to tell.
-pub fn fault_of(status: &Status) -> Option<Fault> {
+pub fn fault_of(status: &Status) -> Option<Fault>
+    ensures { result ≡ spec.fault_of status.now }
+{
     match *status {
         Status::Ok | Status::Differs => None,
         Status::Usage => Some(Fault::Usage),
@@ -31,7 +36,9 @@ pub fn fault_of(status: &Status) -> Option<Fault> {
 }
 
 /// The program's exit status.
-pub fn exit_status(status: &Status) -> u8 {
+pub fn exit_status(status: &Status) -> u8
+    ensures { result ≡ spec.exit_of status.now }
+{
     match *status {
         Status::Ok => 0,
         Status::Differs => 1,
