@@ -4,8 +4,9 @@ use Rattle.std.specs.Prelude.{option_to_list, option_map}
 use Rattle.std.proofs.lemmas.Bool.{eq-eqb, ne_eqb}
 use Rattle.hr_rel.specs.declared.stmt.Stmt.{Stmt}
 use Rattle.hr_rel.specs.Database.{Database}
-use Rattle.hr_rel.specs.Serial.{play, database_after}
-use Rattle.hr_engine.specs.Base.{with_doubt, shown}
+use Rattle.hr_meaning.specs.Serial.{play, database_after}
+use Rattle.hr_engine.specs.Base.{with_doubt}
+use Rattle.hr_base.specs.Counters.{shown}
 use Rattle.hr_engine.proofs.SerialLaws.{database_after-append}
 
 -- the counts that a restart may tell

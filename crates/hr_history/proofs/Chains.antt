@@ -2,7 +2,7 @@
 use Rattle.std.proofs.Common.{◌≡◌, ℕ, zero, suc, Bool, true, false, not, ◌&&◌, ◌||◌, ◌==◌, cond, List, [], ◌∷◌, ◌++◌, filter, flat_map, ◌⊎◌, inl, inr, ⊎_elim, IsTrue, refl, sym, ◌∙◌}
 use Rattle.std.proofs.lemmas.Bool.Decides.{Decides-eqb}
 use Rattle.std.proofs.lemmas.List.Folds.{list_any-append}
-use Rattle.hr_engine.specs.Lists.{has, once, is_empty, is_ascending}
+use Rattle.hr_base.specs.Lists.{has, once, is_empty, is_ascending}
 use Rattle.hr_engine.specs.Waits.{Leads, is_list_of_running, IsSoundBlocked}
 use Rattle.hr_history.specs.Evidence.{reached, is_sound_blocked}
 use Rattle.hr_history.proofs.StepLemmas.{both}

@@ -3,7 +3,7 @@ use Rattle.std.proofs.Common.{◌≡◌, ℕ, Bool, true, false, not, ◌&&◌, 
 use Rattle.std.specs.Bool.{one_answer}
 use Rattle.std.specs.List.{list_all}
 use Rattle.std.proofs.lemmas.Bool.Decides.{Decides-eqb}
-use Rattle.hr_engine.specs.Lists.{has, once}
+use Rattle.hr_base.specs.Lists.{has, once}
 use Rattle.hr_engine.specs.Waits.{if_all}
 
 pub eq_turn : (a b : ℕ) → (a == b) ≡ (b == a)

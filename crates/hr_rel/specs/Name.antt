@@ -2,7 +2,7 @@
 use Rattle.std.specs.Prelude.{◌≡◌, ℕ, ◌-◌, ◌≤◌, List, ◌++◌, length, take, drop, replicate, true}
 use Rattle.std.specs.List.{list_all}
 use Rattle.std.proofs.Common.{take-append-drop, length-take-le, arith, ap, ◌∙◌, sym}
-use Rattle.hr_rel.specs.Printable.{is_printable}
+use Rattle.hr_base.specs.Bytes.{is_printable}
 use Rattle.hr_rel.specs.declared.name.Name.TheInside.{Inside}
 
 -- 64 bytes: the text, and behind it zeros alone

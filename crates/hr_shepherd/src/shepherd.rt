@@ -1,7 +1,7 @@
 ghost use Rattle.std.specs.Prelude.{◌≡◌, ◌+◌, ◌*◌, ◌<◌, ◌≤◌, IfOk, IfSome, IsSome, OnOk, length, map};
 ghost use Rattle.hr_rel.specs.Database.{Database};
-ghost use Rattle.hr_rel.specs.Exec.{exec};
-ghost use Rattle.hr_rel.specs.Serial.{play};
+ghost use Rattle.hr_meaning.specs.Exec.{exec};
+ghost use Rattle.hr_meaning.specs.Serial.{play};
 ghost use Rattle.hr_shepherd.specs.Replicas.{Hold};
 
 use hr_plain::Plain;

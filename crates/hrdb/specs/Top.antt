@@ -7,7 +7,7 @@ use Rattle.hr_scenario.specs.declared.scenario.Scenario.{Scenario}
 use Rattle.hr_scenario.specs.declared.error.InputError.{InputError}
 use Rattle.hr_scenario.specs.declared.error.InputKind.TheVariants.{TooLong, Unbuilt}
 use Rattle.hr_scenario.specs.Input.{IsScenario, IsRefused}
-use Rattle.hr_report.specs.Texts.{Text}
+use Rattle.hr_base.specs.Texts.{Text}
 use Rattle.hrdb.specs.declared.status.Status.{Status}
 use Rattle.hrdb.specs.declared.status.Status.TheVariants as status
 use Rattle.hrdb.specs.Replay.{report_of}

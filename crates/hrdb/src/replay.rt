@@ -1,7 +1,7 @@
 //! A scenario's run: its session's blocks, one after another, at all replicas.
 ghost use Rattle.std.specs.Prelude.{◌≡◌, ◌+◌, ◌*◌, IfOk, OnOk, length, map, replicate, string_bytes};
 ghost use Rattle.hr_rel.specs.Database.{Database};
-ghost use Rattle.hr_rel.specs.Serial.{database_after, serial_answers};
+ghost use Rattle.hr_meaning.specs.Serial.{database_after, serial_answers};
 ghost use Rattle.hr_shepherd.specs.Replicas.{Hold};
 ghost use Rattle.hrdb.specs.Replay.{IsReady, start, report_of, dumps_of, first_script, statements_of};
 

@@ -1,7 +1,7 @@
 //! The program over any source and sink.
 ghost use Rattle.std.specs.Prelude.{◌≡◌, ◌≢◌, ◌↔◌, ℕ, true, IsTrue, codes, string_bytes};
 ghost use Rattle.std.specs.Io.KnownBytes.{Keeps};
-ghost use Rattle.hr_io.specs.Faults.{Rose};
+ghost use Rattle.hr_base.specs.Counters.{Rose};
 ghost use Rattle.hr_scenario.specs.declared.error.InputKind.{InputKind};
 ghost use Rattle.hrdb.specs.Top.{IsCommand, IsStepped, IsCutOff, IsRefusedInput, is_silent};
 

@@ -120,7 +120,7 @@ fn takes_a_hundred_script_lines(rt: HostRuntime) -> Result<(), Fail> {
 
 #[test]
 fn refuses_more_than_a_mebibyte(rt: HostRuntime) -> Result<(), Fail> {
-    let text = vec![in rt.alloc(); b'\n'; MAX_BYTES + 1]?;
+    let text = vec![in rt.alloc(); b'\n'; MAX_SCENARIO_BYTES + 1]?;
     let too_long = InputError {
         line: 0,
         kind: InputKind::TooLong,

@@ -1,6 +1,6 @@
 use Rattle.std.proofs.Common.{◌≡◌, ◌++◌, ◌<◌, map, take, drop, IfSome, IsSome}
 use Rattle.hr_rel.specs.Database.{Database}
-use Rattle.hr_rel.specs.Exec.{exec}
+use Rattle.hr_meaning.specs.Exec.{exec}
 use Rattle.hr_shepherd.specs.Replicas.{Hold}
 use Rattle.hr_shepherd.proofs.shepherd.run_at_all.Given as goal
 

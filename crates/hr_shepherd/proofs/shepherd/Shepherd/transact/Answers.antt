@@ -3,8 +3,8 @@ use Rattle.std.proofs.lemmas.List.{drop_all, append-nil}
 use Rattle.hr_rel.specs.declared.answer.Answer.{Answer}
 use Rattle.hr_rel.specs.declared.stmt.Stmt.{Stmt}
 use Rattle.hr_rel.specs.Database.{Database}
-use Rattle.hr_rel.specs.Exec.{exec}
-use Rattle.hr_rel.specs.Serial.{play}
+use Rattle.hr_meaning.specs.Exec.{exec}
+use Rattle.hr_meaning.specs.Serial.{play}
 use Rattle.hr_shepherd.specs.Replicas.{Hold}
 use Rattle.hr_shepherd.proofs.InPlace.{all_mapped, next_item}
 use Rattle.hr_shepherd.proofs.shepherd.Shepherd.transact.Goals as goal

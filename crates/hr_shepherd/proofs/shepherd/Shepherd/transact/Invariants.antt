@@ -1,6 +1,6 @@
 use Rattle.std.proofs.Common.{◌≡◌, ◌++◌, drop}
 use Rattle.hr_rel.specs.Database.{Database}
-use Rattle.hr_rel.specs.Serial.{play}
+use Rattle.hr_meaning.specs.Serial.{play}
 use Rattle.hr_shepherd.specs.Replicas.{Hold}
 use Rattle.hr_shepherd.proofs.shepherd.Shepherd.transact.Given as goal
 

@@ -1,7 +1,7 @@
 use Rattle.std.proofs.Common.{ℕ, ◌≡◌, [], ◌∷◌, refl, lit<, arith}
 use Rattle.std.proofs.lemmas.List.Sorted.{IsPermutation-swap, length_permutation}
-use Rattle.hr_rel.specs.Worked.{one}
-use Rattle.hr_rel.proofs.worked.same_rows.Goals as goal
+use Rattle.hr_meaning.specs.Worked.{one}
+use Rattle.hr_meaning.proofs.worked.same_rows.Goals as goal
 
 pub returns-clause-swapped : goal.returns-clause-swapped
 returns-clause-swapped c = IsPermutation-swap (one 1 ∷ one 2 ∷ []) (one 2 ∷ one 1 ∷ []) 0 1 (lit< tt) (lit< tt) refl

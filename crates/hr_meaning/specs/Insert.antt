@@ -47,12 +47,12 @@ abbrev pub insert_error : List ColumnDef → List (List Value) → List Value �
 insert_error columns table row = option_or (null_refused columns row) (duplicate_key table row)
 
 -- the place of a new key: before the first greater one, or at the end
-abbrev pub place_of : List (List Value) → ℤ → ℕ
-place_of table n = unwrap_or (position (comes_after n) table) (length table)
+abbrev pub place_for : List (List Value) → ℤ → ℕ
+place_for table n = unwrap_or (position (comes_after n) table) (length table)
 
 -- the table with one more row; one whose key is no number can't be put in order and stands at the end
 abbrev pub put_row : List (List Value) → List Value → List (List Value)
-put_row table row = insert table (unwrap_or (option_map (place_of table) (key_of row)) (length table)) row
+put_row table row = insert table (unwrap_or (option_map (place_for table) (key_of row)) (length table)) row
 
 -- x, unless there is an error
 abbrev pub unless : {X : Type 0} → Option RunError → X → Result X RunError

@@ -1,8 +1,8 @@
--- Laws of lists of transactions.
+-- Laws of lists of numbers.
 use Rattle.std.proofs.Common.{◌≡◌, ℕ, Bool, true, false, cond, not, ◌&&◌, ◌==◌, inl, inr, IsTrue, List, [], ◌∷◌, refl, ap, ◌∙◌, sym}
 use Rattle.std.specs.List.{filter, list_all}
 use Rattle.std.proofs.lemmas.Bool.{and_parts, and_from, or_cases, or_right, or_left, eq-eqb, eqb-true}
-use Rattle.hr_engine.specs.Lists.{has, is_distinct, once}
+use Rattle.hr_base.specs.Lists.{has, is_distinct, once}
 
 -- a test of what is the same transaction
 pub if_same : (p : ℕ → Bool) (t u : ℕ) → (t == u) ≡ true → p t ≡ p u

@@ -1,7 +1,7 @@
 use Rattle.std.proofs.Common.{ℕ, Option, length, unwrap_or, ap, w64}
 use Rattle.std.proofs.lemmas.Int.{to_z-of_z}
 use mir.Val.{SFits}
-use Rattle.hr_plain.proofs.insert.place_of.Goals as goal
+use Rattle.hr_plain.proofs.insert.place_for.Goals as goal
 
 pub returns-in-Some-clause-place : goal.returns-in-Some-clause-place
 returns-in-Some-clause-place c =
