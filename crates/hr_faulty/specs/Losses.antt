@@ -1,4 +1,5 @@
--- Why a loss is no lie: where the script has no other acts, what is told is rigorous if the journal within is.
+-- Not to be believed but checked: proofs that a trait's law has to cite. Why a loss is no lie: where the script has no other
+-- acts, what is told is rigorous if the journal within is.
 use Rattle.std.proofs.Common.{◌≡◌, ℕ, ◌+◌, ◌-◌, ◌≤◌, ◌<◌, ◌^◌, Bool, true, false, cond, not, ◌==◌, ◌&&◌, nat_lt, Option, Some, None, Result, Ok, Err, IsTrue, ◌⊎◌, inl, inr, List, [], ◌∷◌, ◌++◌, length, map, refl, ap, subst, ◌∙◌, sym, arith, Contains}
 use Rattle.std.specs.List.{filter, list_all, AllZip}
 use Rattle.std.proofs.lemmas.List.Elements.{filter_agree}

@@ -1,4 +1,5 @@
--- How a restart settles what two journals left open: the commits that count, and the commit in doubt.
+-- Not to be believed but checked: proofs that a trait's law has to cite. How a restart settles what two journals left open:
+-- the commits that count, and the commit in doubt.
 use Rattle.std.proofs.Common.{◌≡◌, ℕ, ◌+◌, ◌-◌, ◌≤◌, ◌^◌, Bool, cond, Option, Some, None, IsSome, ◌⊎◌, inl, inr, List, [], ◌∷◌, ◌++◌, length, get_or, zero, suc, ◌<◌, refl, ap, ◌∙◌, sym, arith, Contains, length-append}
 use Rattle.std.specs.Prelude.{option_to_list, option_map}
 use Rattle.std.proofs.lemmas.Bool.{eq-eqb, ne_eqb}

@@ -1,4 +1,4 @@
--- What a scripted backend stands for.
+-- Not to be believed: what a scripted backend's own value stands for, which mirrors its code.
 use Rattle.std.specs.Prelude.{◌≡◌, ℕ, Bool, IsTrue, List, ◌++◌, length}
 use Rattle.hr_rel.specs.Database.{Database}
 use Rattle.hr_engine.specs.Journal.{Call, Journal}

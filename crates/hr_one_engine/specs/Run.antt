@@ -1,4 +1,4 @@
--- What an engine with one lock stands for.
+-- Not to be believed, but for `one_lock`: what the engine's own value stands for, which mirrors its code.
 use Rattle.std.specs.Prelude.{◌≡◌, ℕ, Bool, true, false, ◌==◌, if◌then◌else◌, Option, Some, None, List, []}
 use Rattle.std.specs.List.{AllZip}
 use Rattle.hr_rel.specs.declared.stmt.Stmt.{Stmt}
