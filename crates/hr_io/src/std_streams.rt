@@ -1,13 +1,13 @@
 //! The readers and writers of std as sources and sinks: the edge to the system, which is trusted.
 
-ghost use Rattle.std.specs.Prelude.{◌≡◌, None};
+ghost use Rattle.std.specs.Prelude.{◌≡◌};
 
 use crate::error::Failed;
 use crate::sink::Sink;
 use crate::source::Source;
 use std::io::{Read, Write};
 
-/// A reader of std as a source, which tells nothing of its bytes.
+/// A reader of std as a source, which has left what the reader has, where std knows that.
 #[derive(Debug, Drop)]
 pub struct StdSource<T> {
     reader: T,
@@ -15,13 +15,16 @@ pub struct StdSource<T> {
 }
 
 impl<T> StdSource<T> {
-    pub fn new(reader: T) -> Self {
+    pub fn new(reader: T) -> Self
+        ensures reader { result.reader ≡ reader }
+        ensures faults { result.faults ≡ 0 }
+    {
         StdSource { reader, faults: 0 }
     }
 }
 
 impl<T: Read> Source for StdSource<T> {
-    ghost left = { λ _. None };
+    ghost left = { λ s. T.remaining s.reader };
 
     ghost faults = { λ s. s.faults };
 
@@ -36,7 +39,7 @@ impl<T: Read> Source for StdSource<T> {
     }
 }
 
-/// A writer of std as a sink, which tells nothing of its bytes.
+/// A writer of std as a sink, which has taken what the writer has, where std knows that.
 #[derive(Debug, Drop)]
 pub struct StdSink<T> {
     writer: T,
@@ -44,13 +47,16 @@ pub struct StdSink<T> {
 }
 
 impl<T> StdSink<T> {
-    pub fn new(writer: T) -> Self {
+    pub fn new(writer: T) -> Self
+        ensures writer { result.writer ≡ writer }
+        ensures faults { result.faults ≡ 0 }
+    {
         StdSink { writer, faults: 0 }
     }
 }
 
 impl<T: Write> Sink for StdSink<T> {
-    ghost taken = { λ _. None };
+    ghost taken = { λ s. T.contents s.writer };
 
     ghost faults = { λ s. s.faults };
 
@@ -72,13 +78,41 @@ mod tests {
     use std::io;
     use std::test::Fail;
 
-    /// A reader and writer that is cut off.
+    /// A reader and a writer that fails once, and then gives or takes all that it is asked for.
     #[derive(Drop)]
-    struct CutOff;
+    struct CutOffOnce {
+        was_cut_off: bool,
+    }
 
-    impl Read for CutOff {
-        fn read(&mut self, _buf: &mut [u8]) -> io::Result<usize> {
+    fn cut_off_once() -> CutOffOnce {
+        CutOffOnce { was_cut_off: false }
+    }
+
+    impl CutOffOnce {
+        fn cut_off(&mut self) -> io::Result<()> {
+            if self.was_cut_off {
+                return Ok(());
+            }
+            self.was_cut_off = true;
             Err(io::ErrorKind::ConnectionReset.into())
+        }
+    }
+
+    impl Read for CutOffOnce {
+        fn read(&mut self, buf: &mut [u8]) -> io::Result<usize> {
+            self.cut_off()?;
+            Ok(buf.len())
+        }
+    }
+
+    impl Write for CutOffOnce {
+        fn write(&mut self, piece: &[u8]) -> io::Result<usize> {
+            self.cut_off()?;
+            Ok(piece.len())
+        }
+
+        fn flush(&mut self) -> io::Result<()> {
+            Ok(())
         }
     }
 
@@ -88,8 +122,9 @@ mod tests {
         let text: &[u8] = b"abc";
         assert_eq!(rt; StdSource::new(text).read(&mut buf), Ok(3));
         assert_eq!(rt; buf, *b"abc\0");
-        let mut cut_off = StdSource::new(CutOff);
+        let mut cut_off = StdSource::new(cut_off_once());
         assert_eq!(rt; cut_off.read(&mut buf), Err(Failed));
+        assert_eq!(rt; cut_off.read(&mut buf), Ok(4));
         assert_eq!(rt; cut_off.faults, 1);
     }
 
@@ -103,6 +138,10 @@ mod tests {
         assert_eq!(rt; full.write(b"abc"), Ok(2));
         assert_eq!(rt; full.write(b"c"), Err(Failed));
         assert_eq!(rt; full.faults, 1);
+        let mut cut_off = StdSink::new(cut_off_once());
+        assert_eq!(rt; cut_off.write(b"abc"), Err(Failed));
+        assert_eq!(rt; cut_off.write(b"abc"), Ok(3));
+        assert_eq!(rt; cut_off.faults, 1);
         Ok(())
     }
 }

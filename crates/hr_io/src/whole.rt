@@ -1,6 +1,6 @@
 //! Whole texts: all that a source has, up to a limit, and all of a text into a sink.
 
-ghost use Rattle.std.specs.Prelude.{◌≡◌, ◌≤◌, ◌+◌, ℕ, List, Err, length, vec_len, IfOk, OnOk, OnErr};
+ghost use Rattle.std.specs.Prelude.{◌≡◌, ◌≢◌, ◌≤◌, ◌+◌, ℕ, List, Err, length, vec_len, IfOk, OnOk, OnErr};
 ghost use Rattle.std.specs.Io.KnownBytes.{Consumes, Appends, IsAtEnd};
 ghost use Rattle.hr_io.specs.Faults.{Rose, HasCause};
 ghost use Rattle.hr_io.specs.Bytes.{AppendsFront};
@@ -27,6 +27,7 @@ pub fn read_whole<S: Source>(
     ensures within { IfOk result (λ text. vec_len text ≤ limit) }
     ensures too_long { result ≡ Err ReadError.TooLong → (front : List ℕ) × (length front ≡ limit + 1) × Consumes (S.left source.old) (S.left source.new) front }
     ensures fault { result ≡ Err ReadError.Fault → Rose (S.faults source.old) (S.faults source.new) }
+    ensures told { result ≢ Err ReadError.Fault → S.faults source.new ≡ S.faults source.old }
     ensures later { S.faults source.old ≤ S.faults source.new }
 {
     let mut text = Vec::new(alloc);

@@ -1,10 +1,10 @@
 -- The worked scenarios and their reports, line by line.
-use Rattle.std.specs.Prelude.{pos, List, [], ◌∷◌, ◌++◌, codes}
+use Rattle.std.specs.Prelude.{pos, negsuc, List, [], ◌∷◌, ◌++◌, codes}
 use Rattle.std.specs.List.{flat_map}
 use Rattle.hr_scenario.specs.declared.form.Form.{Form}
 use Rattle.hr_scenario.specs.declared.form.Step.{Step}
 use Rattle.hr_scenario.specs.declared.form.Step.TheVariants.{Insert, Select, Commit}
-use Rattle.hr_scenario.specs.declared.form.Column.TheVariants.{Value}
+use Rattle.hr_scenario.specs.declared.form.Column.TheVariants.{Key, Value}
 use Rattle.hr_scenario.specs.declared.scenario.EngineKind.TheVariants.{ByTable, ByRange}
 use Rattle.hr_base.specs.Texts.{Text, line}
 
@@ -71,5 +71,65 @@ empty_commit_report = text_of
     ∷ codes "table t 0"
     ∷ codes "replica 2 table position 1 preempted 0 live"
     ∷ codes "table t 0"
+    ∷ codes "end"
+    ∷ [])
+
+-- one replica, which is never wrong, of a table `stock (item int key, amount int)`
+abbrev pub one_replica : Form
+one_replica = record {
+  f = 0;
+  kinds = ByRange ∷ [];
+  table = record { name = codes "stock"; key = codes "item"; value = codes "amount" };
+  script =
+      Insert (pos 7) (negsuc 2)
+      ∷ Select Key (pos 7)
+      ∷ Insert (pos 7) (pos 4)
+      ∷ Commit
+      ∷ Insert (negsuc 7) (pos 9)
+      ∷ Select Value (pos 7)
+      ∷ Select Value (pos 8)
+      ∷ Commit
+      ∷ [];
+}
+
+abbrev pub one_replica_input : Text
+one_replica_input = text_of
+    (codes "hrdb 1"
+    ∷ codes "f 0"
+    ∷ codes "replicas range"
+    ∷ codes "table stock (item int key, amount int)"
+    ∷ codes "session"
+    ∷ codes "INSERT INTO stock VALUES (7, -3)"
+    ∷ codes "SELECT item FROM stock WHERE item = 7"
+    ∷ codes "INSERT INTO stock VALUES (7, 4)"
+    ∷ codes "COMMIT"
+    ∷ codes "INSERT INTO stock VALUES (-8, 9)"
+    ∷ codes "SELECT amount FROM stock WHERE item = 7"
+    ∷ codes "SELECT amount FROM stock WHERE item = 8"
+    ∷ codes "COMMIT"
+    ∷ codes "end"
+    ∷ [])
+
+abbrev pub one_replica_report : Text
+one_replica_report = text_of
+    (codes "hrdb report 1"
+    ∷ codes "commits 2"
+    ∷ codes "commit 1 session 1 block 1 txn 1"
+    ∷ codes "answer 1 count 1"
+    ∷ codes "answer 2 rows 1"
+    ∷ codes "(7)"
+    ∷ codes "answer 3 failed duplicate 7"
+    ∷ codes "commit 2 session 1 block 2 txn 2"
+    ∷ codes "answer 1 count 1"
+    ∷ codes "answer 2 rows 1"
+    ∷ codes "(-3)"
+    ∷ codes "answer 3 rows 0"
+    ∷ codes "session 1"
+    ∷ codes "block 1 try 1 txn 1 committed 1"
+    ∷ codes "block 2 try 1 txn 2 committed 2"
+    ∷ codes "replica 0 range position 2 preempted 0 live primary"
+    ∷ codes "table stock 2"
+    ∷ codes "(-8, 9)"
+    ∷ codes "(7, -3)"
     ∷ codes "end"
     ∷ [])

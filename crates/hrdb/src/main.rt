@@ -4,6 +4,8 @@
 //! output.
 #![tactic(auto)]
 
+ghost use Rattle.std.specs.Prelude.{◌≡◌, ◌≢◌, ◌↔◌};
+
 mod fault;
 mod replay;
 mod status;
@@ -16,10 +18,11 @@ use fault::{exit_status, fault_of};
 use hr_io::{OpenGate, StdSink, StdSource};
 pub use status::Status;
 use std::alloc::AllocError;
+use std::io::ErrorKind;
 use std::process::ExitCode;
 use std::{env, io};
 pub use top::{run, top};
-pub use worked::{empty_commit, insert_and_select};
+pub use worked::{empty_commit, insert_and_select, one_replica};
 
 fn main(rt: HostRuntime) -> ExitCode {
     let status = match words(&rt) {
@@ -28,13 +31,24 @@ fn main(rt: HostRuntime) -> ExitCode {
             let mut sink = StdSink::new(rt.stdout());
             top(&rt, rt.alloc(), &words, &mut source, &mut sink, &OpenGate)
         }
-        Err(_) => Status::Memory,
+        Err(error) => status_without_words(error.kind()),
     };
     if let Some(fault) = fault_of(&status) {
         // Where standard error takes nothing, the exit code tells.
         let _told = eprintln!(&rt; "{fault}");
     }
     ExitCode::from(exit_status(&status))
+}
+
+// Words that can't be had, as one that isn't UTF-8, are no command. Want of memory says nothing of them.
+fn status_without_words(why: ErrorKind) -> Status
+    ensures memory { (result ≡ Status.Memory) ↔ (why ≡ ErrorKind.OutOfMemory) }
+    ensures usage { why ≢ ErrorKind.OutOfMemory → result ≡ Status.Usage }
+{
+    match why {
+        ErrorKind::OutOfMemory => Status::Memory,
+        _ => Status::Usage,
+    }
 }
 
 // The words behind the program's name.

@@ -31,6 +31,8 @@ pub fn top<R: Threads + Wait + Sync, S: Source, K: Sink, G: Gate + Sync>(
         → IsRefusedInput (S.left source.old) (S.left source.new) record { line = line; kind = kind } }
     ensures read_fault { result ≡ Status.ReadFault → Rose (S.faults source.old) (S.faults source.new) }
     ensures write_fault { result ≡ Status.WriteFault → Rose (K.faults sink.old) (K.faults sink.new) }
+    ensures read_told { result ≢ Status.ReadFault → S.faults source.new ≡ S.faults source.old }
+    ensures write_told { result ≢ Status.WriteFault → K.faults sink.new ≡ K.faults sink.old }
     ensures cut_off { result ≡ Status.WriteFault → IsCutOff (S.left source.old) (S.left source.new) (K.taken sink.old) (K.taken sink.new) }
     ensures silent { is_silent result ≡ true → Keeps (K.taken sink.old) (K.taken sink.new) }
     ensures no_audit { result ≢ Status.Differs }
@@ -52,6 +54,8 @@ pub fn run<S: Source, K: Sink>(
         → IsRefusedInput (S.left source.old) (S.left source.new) record { line = line; kind = kind } }
     ensures read_fault { result ≡ Status.ReadFault → Rose (S.faults source.old) (S.faults source.new) }
     ensures write_fault { result ≡ Status.WriteFault → Rose (K.faults sink.old) (K.faults sink.new) }
+    ensures read_told { result ≢ Status.ReadFault → S.faults source.new ≡ S.faults source.old }
+    ensures write_told { result ≢ Status.WriteFault → K.faults sink.new ≡ K.faults sink.old }
     ensures cut_off { result ≡ Status.WriteFault → IsCutOff (S.left source.old) (S.left source.new) (K.taken sink.old) (K.taken sink.new) }
     ensures silent { is_silent result ≡ true → Keeps (K.taken sink.old) (K.taken sink.new) }
     ensures no_audit { result ≢ Status.Differs }
@@ -86,6 +90,8 @@ fn step<S: Source, K: Sink>(alloc: Global, source: &mut S, sink: &mut K) -> Stat
         → IsRefusedInput (S.left source.old) (S.left source.new) record { line = line; kind = kind } }
     ensures read_fault { result ≡ Status.ReadFault → Rose (S.faults source.old) (S.faults source.new) }
     ensures write_fault { result ≡ Status.WriteFault → Rose (K.faults sink.old) (K.faults sink.new) }
+    ensures read_told { result ≢ Status.ReadFault → S.faults source.new ≡ S.faults source.old }
+    ensures write_told { result ≢ Status.WriteFault → K.faults sink.new ≡ K.faults sink.old }
     ensures cut_off { result ≡ Status.WriteFault → IsCutOff (S.left source.old) (S.left source.new) (K.taken sink.old) (K.taken sink.new) }
     ensures silent { is_silent result ≡ true → Keeps (K.taken sink.old) (K.taken sink.new) }
     ensures no_audit { result ≢ Status.Differs }

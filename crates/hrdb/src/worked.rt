@@ -4,7 +4,7 @@ ghost use Rattle.std.specs.Prelude.{◌≡◌};
 ghost use Rattle.hr_scenario.specs.Input.{IsScenario};
 ghost use Rattle.hr_scenario.specs.Meaning.{scenario_of};
 ghost use Rattle.hrdb.specs.Replay.{report_of};
-ghost use Rattle.hrdb.specs.Worked.{insert_and_select, insert_and_select_input, insert_and_select_report, empty_commit, empty_commit_input, empty_commit_report};
+ghost use Rattle.hrdb.specs.Worked.{insert_and_select, insert_and_select_input, insert_and_select_report, empty_commit, empty_commit_input, empty_commit_report, one_replica, one_replica_input, one_replica_report};
 
 /// A session inserts a row and reads it back: its scenario's bytes, and its report's.
 pub fn insert_and_select()
@@ -16,4 +16,11 @@ pub fn insert_and_select()
 pub fn empty_commit()
     ensures scenario { IsScenario empty_commit_input (scenario_of empty_commit) }
     ensures report { report_of (scenario_of empty_commit) ≡ empty_commit_report }
+{}
+
+/// Without liars: the key is selected, a key that is there fails the INSERT, numbers are negative, a key isn't there, and
+/// the session commits twice.
+pub fn one_replica()
+    ensures scenario { IsScenario one_replica_input (scenario_of one_replica) }
+    ensures report { report_of (scenario_of one_replica) ≡ one_replica_report }
 {}

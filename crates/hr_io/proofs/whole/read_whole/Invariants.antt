@@ -7,7 +7,7 @@ invariant-pieces g l = record {
   within : vec_len l.text ≤ l.limit + 1;
   buffer : length l.buf ≡ 4096;
   taken : Consumes (g.S.Source.left l.fn.source) (g.S.Source.left l.source) l.text.items;
-  later : g.S.Source.faults l.fn.source ≤ g.S.Source.faults l.source;
+  told : g.S.Source.faults l.source ≡ g.S.Source.faults l.fn.source;
 }
 
 abbrev pub decreases-pieces : goal.decreases-pieces
