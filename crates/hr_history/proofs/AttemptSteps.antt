@@ -25,7 +25,7 @@ use Rattle.hr_history.specs.View.{Attempt, view_of, attempt_state, is_fresh}
 use Rattle.hr_history.specs.Processed.{attempt_in, no_attempt, named_in, cycle_in}
 use Rattle.hr_history.specs.Step.{next_answers, answers_after, touched_after, wait_left, standing_left, runs_after, last_if, last_after, fresh_after, attempt_after}
 use Rattle.hr_history.proofs.StepLemmas.{replica_lookup}
-use Rattle.hr_history.proofs.Tests.{eq_turn}
+use Rattle.hr_base.proofs.Tests.{eq_turn}
 use Rattle.hr_history.proofs.Quiet.{quiet, places_none, preempted_none, fresh_none}
 use Rattle.hr_history.proofs.WaitLaws.{wait_of_last, standing_of_last}
 use Rattle.hr_history.proofs.CallWords.{Words, bare, bare_words, call_same, answers_step, answers_same, touched_same, places_same, preempted_same}

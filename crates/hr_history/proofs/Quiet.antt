@@ -21,7 +21,7 @@ use Rattle.hr_history.specs.Replicas.{out_at, next_out, call_of, call_if, restar
 use Rattle.hr_history.specs.Attempts.{is_touched, is_preempted, next_preempted, unless_ended, ends_attempt, places_told, next_places, dispatched, next_dispatched, and_dispatched}
 use Rattle.hr_history.specs.Turn.{fresh_of, next_fresh, fresh_from}
 use Rattle.hr_history.specs.View.{is_fresh}
-use Rattle.hr_history.proofs.Tests.{eq_turn, if_false, if_same, or_false, and_false, has_end}
+use Rattle.hr_base.proofs.Tests.{eq_turn, if_false, if_same, or_false, and_false, has_end}
 
 -- whether the job is to run a statement of t
 abbrev pub runs_of : ℕ → Option Job → Bool

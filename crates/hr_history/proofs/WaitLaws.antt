@@ -1,5 +1,6 @@
 -- The waits that a view has are those of the journal.
 use Rattle.std.proofs.Common.{◌≡◌, ℕ, Bool, true, false, ◌==◌, if◌then◌else◌, Option, Some, None, List, [], ◌∷◌, filter, option_and_then, refl, ap, sym, ◌∙◌}
+use Rattle.std.specs.List.{list_all}
 use Rattle.hr_engine.specs.Journal.{Call, Ran, Committed, RolledBack, Restarted, Journal}
 use Rattle.hr_engine.specs.Effects.{Effect, effect_of}
 use Rattle.hr_engine.specs.Effects as does
@@ -12,7 +13,17 @@ use Rattle.hr_history.specs.declared.phase.Last.{Last}
 use Rattle.hr_history.specs.declared.phase.Last.TheVariants as last
 use Rattle.hr_history.specs.Attempts.{still_told, as_told, or_still, last_told}
 use Rattle.hr_history.specs.Processed.{named_in, cycle_in}
-use Rattle.hr_history.proofs.Tests.{filter_again, once_filter, once_again, if_all_again}
+use Rattle.hr_base.proofs.Tests.{filter_again, once_filter, once_again}
+
+-- a list that passes whole passes again
+module _ (p : ℕ → Bool) where
+  if_all_by : (b : Bool) (ts : List ℕ) → list_all p ts ≡ b → option_and_then (if_all p) (if b then Some ts else None) ≡ (if b then Some ts else None)
+  if_all_by true ts e = ap (λ b. if b then Some ts else None) e
+  if_all_by false ts e = refl
+
+  pub if_all_again : (o : Option (List ℕ)) → option_and_then (if_all p) (option_and_then (if_all p) o) ≡ option_and_then (if_all p) o
+  if_all_again None = refl
+  if_all_again (Some ts) = if_all_by (list_all p ts) ts refl
 
 -- a wait names nobody twice, and running ones alone
 once_if : (b : Bool) (xs ys : List ℕ) → once xs ≡ xs → once ys ≡ ys → once (if b then xs else ys) ≡ (if b then xs else ys)

@@ -11,8 +11,6 @@ mod order;
 mod point;
 mod seq;
 mod stmt;
-#[cfg(test)]
-mod tests;
 mod value;
 
 pub use answer::{Answer, RunError};

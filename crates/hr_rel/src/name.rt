@@ -12,7 +12,8 @@ use std::cmp::Ordering;
 use std::marker::Model;
 use std::{fmt, str};
 
-/// A text of at most 64 bytes, each printable ASCII (0x20 to 0x7E). It lies in the value itself, so it is `Copy`.
+/// A text of at most 64 bytes, each printable ASCII (0x20 to 0x7E). It serves as the text value of a row, and as the name of
+/// a table or a column, where fewer bytes are allowed. It lies in the value itself, so it is `Copy`.
 /// Texts are ordered and equal by their bytes.
 #[derive(Clone, Copy)]
 pub struct Name {

@@ -1,4 +1,4 @@
--- The reader as functions on lines, one for each function of the code: what the code gives. No public clause
+-- Not to be believed: the reader as functions on lines, one for each function of the code, which mirrors it. No public clause
 -- cites them; proofs/Exact.antt shows that they give what the definition of the input says.
 use Rattle.std.specs.Prelude.{◌≡◌, ℕ, suc, ℤ, pos, negsuc, ◌+◌, ◌*◌, Bool, true, false, not, ◌&&◌, ◌||◌, ◌==◌, nat_le, nat_lt, if◌then◌else◌, List, [], ◌∷◌, ◌++◌, length, take, drop, Option, Some, None, Result, Ok, Err, ⊤, codes}
 use Rattle.std.specs.Char.{is_ascii_digit, is_ascii_lowercase}

@@ -314,6 +314,3 @@ fn column_of(word: &[u8], table: &TableLine) -> Option<Column>
     }
     None
 }
-
-#[cfg(test)]
-mod tests;

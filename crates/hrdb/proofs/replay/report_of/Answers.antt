@@ -3,7 +3,7 @@ use Rattle.hr_rel.specs.declared.value.Value.{Value}
 use Rattle.hr_rel.specs.declared.answer.Answer.{Answer}
 use Rattle.hr_meaning.specs.Serial.{database_after, serial_answers}
 use Rattle.hr_scenario.specs.declared.scenario.Block.{Block}
-use Rattle.hr_shepherd.specs.Replicas.{Hold}
+use Rattle.hr_one_session.specs.Replicas.{Hold}
 use Rattle.hr_base.specs.Texts.{Text}
 use Rattle.hr_report.specs.Report.{report_text}
 use Rattle.hrdb.specs.Replay.{start, log_of, last_dumps, statements_of}

@@ -1,8 +1,8 @@
 use Rattle.std.proofs.Common.{◌≡◌, ◌++◌, drop}
 use Rattle.hr_rel.specs.Database.{Database}
 use Rattle.hr_meaning.specs.Serial.{play}
-use Rattle.hr_shepherd.specs.Replicas.{Hold}
-use Rattle.hr_shepherd.proofs.shepherd.Shepherd.transact.Given as goal
+use Rattle.hr_one_session.specs.Replicas.{Hold}
+use Rattle.hr_one_session.proofs.session.OneSession.transact.Given as goal
 
 -- Each replica holds what the statements so far have left, and what is still to be played completes the whole.
 abbrev pub invariant-stmts : goal.invariant-stmts

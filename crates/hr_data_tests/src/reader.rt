@@ -1,4 +1,8 @@
-use super::*;
+//! Scenarios that are read, and the lines that are refused.
+
+use hr_base::limits::MAX_SCENARIO_BYTES;
+use hr_scenario::{EngineKind, InputError, InputKind, ReadError, read};
+use std::alloc::{AllocError, Global};
 use std::fmt::Write;
 use std::test::Fail;
 

@@ -1,5 +1,8 @@
 //! Copies of values that have each variant once print as what they copy.
-use super::*;
+use hr_rel::{
+    Answer, ColRef, DeleteStmt, Expr, InsertStmt, Item, Name, Op, Operand, Pred, RunError, SelectStmt,
+    Seq, Set, Stmt, TryCopy, UpdateStmt, Value,
+};
 use sqlite_items::Boxed;
 use std::alloc::{AllocError, Global};
 use std::fmt::Debug;

@@ -1,8 +1,8 @@
 use Rattle.std.proofs.Common.{refl, ap, sym, ◌∙◌}
 use Rattle.hr_rel.specs.Database.{Database}
 use Rattle.hr_meaning.specs.Exec.{exec}
-use Rattle.hr_shepherd.proofs.InPlace.{item_was, mapped_next, item_is}
-use Rattle.hr_shepherd.proofs.shepherd.run_at_all.Goals as goal
+use Rattle.hr_one_session.proofs.InPlace.{item_was, mapped_next, item_is}
+use Rattle.hr_one_session.proofs.session.run_at_all.Goals as goal
 
 pub replicas-preserved : goal.replicas-preserved
 replicas-preserved c =

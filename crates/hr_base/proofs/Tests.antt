@@ -1,10 +1,8 @@
--- Small laws on tests, and on lists of transactions.
-use Rattle.std.proofs.Common.{◌≡◌, ℕ, Bool, true, false, not, ◌&&◌, ◌||◌, ◌==◌, if◌then◌else◌, cond, List, [], ◌∷◌, ◌++◌, filter, Option, Some, None, option_and_then, refl, ap, sym, ◌∙◌}
+-- Small laws on tests, and on the list words.
+use Rattle.std.proofs.Common.{◌≡◌, ℕ, Bool, true, false, not, ◌&&◌, ◌||◌, ◌==◌, if◌then◌else◌, cond, List, [], ◌∷◌, ◌++◌, filter, refl, ap, sym, ◌∙◌, ◌⊎◌, inl, inr, ⊎_elim}
 use Rattle.std.specs.Bool.{one_answer}
-use Rattle.std.specs.List.{list_all}
 use Rattle.std.proofs.lemmas.Bool.Decides.{Decides-eqb}
 use Rattle.hr_base.specs.Lists.{has, once}
-use Rattle.hr_engine.specs.Waits.{if_all}
 
 pub eq_turn : (a b : ℕ) → (a == b) ≡ (b == a)
 eq_turn a b = one_answer (a == b) (b == a) (Decides-eqb a b) (λ h. sym ((Decides-eqb b a).0 h), λ e. (Decides-eqb b a).1 (sym e))
@@ -98,12 +96,54 @@ once_again (x ∷ xs) =
     let q = λ (u : ℕ). not (u == x) in
     ap (λ ys. x ∷ filter q ys) (once_filter q (once xs)) ∙ ap (λ ys. x ∷ ys) (filter_again q (once (once xs))) ∙ ap (λ ys. x ∷ filter q ys) (once_again xs)
 
--- a list that passes whole passes again
-module _ (p : ℕ → Bool) where
-  if_all_by : (b : Bool) (ts : List ℕ) → list_all p ts ≡ b → option_and_then (if_all p) (if b then Some ts else None) ≡ (if b then Some ts else None)
-  if_all_by true ts e = ap (λ b. if b then Some ts else None) e
-  if_all_by false ts e = refl
+pub or_split : (a b : Bool) → (a || b) ≡ true → (a ≡ true) ⊎ (b ≡ true)
+or_split true b h = inl refl
+or_split false b h = inr h
 
-  pub if_all_again : (o : Option (List ℕ)) → option_and_then (if_all p) (option_and_then (if_all p) o) ≡ option_and_then (if_all p) o
-  if_all_again None = refl
-  if_all_again (Some ts) = if_all_by (list_all p ts) ts refl
+pub or_second : (a b : Bool) → b ≡ true → (a || b) ≡ true
+or_second true b h = refl
+or_second false b h = h
+
+pub or_first : (a b : Bool) → a ≡ true → (a || b) ≡ true
+or_first true b h = refl
+or_first false b h = cc
+
+-- a part of a list has what the list has
+part_of_head : (b : Bool) (x u : ℕ) (xs ys : List ℕ) → (has ys u ≡ true → has xs u ≡ true) → has (cond b (x ∷ ys) ys) u ≡ true → ((x == u) || has xs u) ≡ true
+part_of_head true x u xs ys more h =
+    ⊎_elim (λ (e : (x == u) ≡ true). or_first (x == u) (has xs u) e) (λ (e : has ys u ≡ true). or_second (x == u) (has xs u) (more e)) (or_split (x == u) (has ys u) h)
+part_of_head false x u xs ys more h = or_second (x == u) (has xs u) (more h)
+
+pub in_filter : (p : ℕ → Bool) (xs : List ℕ) (u : ℕ) → has (filter p xs) u ≡ true → has xs u ≡ true
+in_filter p [] u h = h
+in_filter p (x ∷ xs) u h = part_of_head (p x) x u xs (filter p xs) (λ e. in_filter p xs u e) h
+
+pub in_once : (xs : List ℕ) (u : ℕ) → has (once xs) u ≡ true → has xs u ≡ true
+in_once [] u h = h
+in_once (x ∷ xs) u h = part_of_head true x u xs (filter (λ v. not (v == x)) (once xs)) (λ e. in_once xs u (in_filter (λ v. not (v == x)) (once xs) u e)) h
+
+-- what is in a list stays in it once, and where it passes the test
+kept_head : (b : Bool) (p : ℕ → Bool) (x u : ℕ) (xs : List ℕ) → p x ≡ b → p u ≡ true → (has xs u ≡ true → has (filter p xs) u ≡ true) → ((x == u) || has xs u) ≡ true → has (cond b (x ∷ filter p xs) (filter p xs)) u ≡ true
+kept_head true p x u xs e passes more h =
+    ⊎_elim (λ (d : (x == u) ≡ true). or_first (x == u) (has (filter p xs) u) d) (λ (d : has xs u ≡ true). or_second (x == u) (has (filter p xs) u) (more d)) (or_split (x == u) (has xs u) h)
+kept_head false p x u xs e passes more h =
+    ⊎_elim (λ (d : (x == u) ≡ true). absurd (no_both (sym (ap p ((Decides-eqb x u).0 d) ∙ passes) ∙ e))) (λ (d : has xs u ≡ true). more d) (or_split (x == u) (has xs u) h)
+  where
+    no_both : true ≡ false → ⊥
+    no_both q = cc q
+
+pub kept : (p : ℕ → Bool) (u : ℕ) (xs : List ℕ) → p u ≡ true → has xs u ≡ true → has (filter p xs) u ≡ true
+kept p u [] passes h = h
+kept p u (x ∷ xs) passes h = kept_head (p x) p x u xs refl passes (λ d. kept p u xs passes d) h
+
+once_head : (b : Bool) (x u : ℕ) (xs : List ℕ) → (x == u) ≡ b → (has xs u ≡ true → has (once xs) u ≡ true) → (b || has xs u) ≡ true → (b || has (filter (λ v. not (v == x)) (once xs)) u) ≡ true
+once_head true x u xs e more h = refl
+once_head false x u xs e more h = kept (λ v. not (v == x)) u (once xs) (turned (u == x) refl) (more h)
+  where
+    turned : (c : Bool) → (u == x) ≡ c → not (u == x) ≡ true
+    turned true d = cc (sym ((Decides-eqb x u).1 (sym ((Decides-eqb u x).0 d))) ∙ e)
+    turned false d = ap not d
+
+pub kept_once : (xs : List ℕ) (u : ℕ) → has xs u ≡ true → has (once xs) u ≡ true
+kept_once [] u h = h
+kept_once (x ∷ xs) u h = once_head (x == u) x u xs refl (λ d. kept_once xs u d) h

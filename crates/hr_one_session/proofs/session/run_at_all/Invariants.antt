@@ -1,8 +1,8 @@
 use Rattle.std.proofs.Common.{◌≡◌, ◌++◌, ◌<◌, map, take, drop, IfSome, IsSome}
 use Rattle.hr_rel.specs.Database.{Database}
 use Rattle.hr_meaning.specs.Exec.{exec}
-use Rattle.hr_shepherd.specs.Replicas.{Hold}
-use Rattle.hr_shepherd.proofs.shepherd.run_at_all.Given as goal
+use Rattle.hr_one_session.specs.Replicas.{Hold}
+use Rattle.hr_one_session.proofs.session.run_at_all.Given as goal
 
 abbrev pub invariant-replicas : goal.invariant-replicas
 invariant-replicas l = record {

@@ -5,9 +5,9 @@ use Rattle.hr_rel.specs.declared.stmt.Stmt.{Stmt}
 use Rattle.hr_rel.specs.Database.{Database}
 use Rattle.hr_meaning.specs.Exec.{exec}
 use Rattle.hr_meaning.specs.Serial.{play}
-use Rattle.hr_shepherd.specs.Replicas.{Hold}
-use Rattle.hr_shepherd.proofs.InPlace.{all_mapped, next_item}
-use Rattle.hr_shepherd.proofs.shepherd.Shepherd.transact.Goals as goal
+use Rattle.hr_one_session.specs.Replicas.{Hold}
+use Rattle.hr_one_session.proofs.InPlace.{all_mapped, next_item}
+use Rattle.hr_one_session.proofs.session.OneSession.transact.Goals as goal
 
 pub stmts-init : goal.stmts-init
 stmts-init c db hold = (db, hold, ap (λ (l : List Answer). l ++ (play db c.deref-stmt-items.result.now).answers) c.new-answers.ensures.items, refl)

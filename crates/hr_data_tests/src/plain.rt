@@ -1,7 +1,7 @@
 //! A plain database at work.
 ghost use Rattle.hr_rel.specs.Printable.{IsText};
 
-use super::*;
+use hr_plain::Plain;
 use hr_rel::{
     Answer, Catalog, ColKind, ColumnDef, InsertStmt, Name, Row, RunError, Seq, Stmt, TableDef,
     Value,

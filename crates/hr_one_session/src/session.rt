@@ -2,35 +2,30 @@ ghost use Rattle.std.specs.Prelude.{◌≡◌, ◌+◌, ◌*◌, ◌<◌, ◌≤
 ghost use Rattle.hr_rel.specs.Database.{Database};
 ghost use Rattle.hr_meaning.specs.Exec.{exec};
 ghost use Rattle.hr_meaning.specs.Serial.{play};
-ghost use Rattle.hr_shepherd.specs.Replicas.{Hold};
+ghost use Rattle.hr_one_session.specs.Replicas.{Hold};
 
+use hr_base::limits::{MAX_F, MAX_SESSIONS};
 use hr_plain::Plain;
 use hr_rel::{Answer, Stmt};
 use std::alloc::{AllocError, Global};
 
-/// How many replicas may lie at most: there are 2f + 1 in all.
-pub const MAX_F: u32 = 3;
-
-/// How many sessions there are at most.
-pub const MAX_SESSIONS: u32 = 64;
-
-/// The trusted shepherd of 2f + 1 replicas.
+/// The shepherd of one session, over 2f + 1 replicas.
 #[derive(Drop)]
-pub struct Shepherd {
+pub struct OneSession {
     alloc: Global,
     pub f: u32,
     pub sessions: u32,
 }
 
-impl Shepherd {
+impl OneSession {
     /// A shepherd for 2f + 1 replicas and this many sessions.
-    pub fn new(alloc: Global, f: u32, sessions: u32) -> Result<Shepherd, AllocError>
+    pub fn new(alloc: Global, f: u32, sessions: u32) -> Result<OneSession, AllocError>
         requires liars { f ≤ MAX_F }
         requires sessions { sessions ≤ MAX_SESSIONS }
         ensures liars { IfOk result (λ shepherd. shepherd.f ≡ f) }
         ensures sessions { IfOk result (λ shepherd. shepherd.sessions ≡ sessions) }
     {
-        Ok(Shepherd { alloc, f, sessions })
+        Ok(OneSession { alloc, f, sessions })
     }
 
     /// Runs one transaction, from its first statement to its commit, at each of the replicas, which all hold one
