@@ -1,6 +1,7 @@
 -- The journals of the worked runs, over `table t (id int key, v int)`.
-use Rattle.std.specs.Prelude.{ℕ, Ok, Err, List, [], ◌∷◌, reverse}
+use Rattle.std.specs.Prelude.{ℕ, Bool, true, false, Ok, Err, List, [], ◌∷◌, reverse}
 use Rattle.hr_rel.specs.declared.answer.Answer.TheVariants.{Rows, Count}
+use Rattle.hr_rel.specs.declared.stmt.Stmt.{Stmt}
 use Rattle.hr_meaning.specs.Worked.{one, insert, select_v}
 use Rattle.hr_engine.specs.declared.reply.Lost.{Lost}
 use Rattle.hr_engine.specs.declared.reply.RunReply.TheVariants as run
@@ -89,3 +90,18 @@ commit_after call = in_order (inserts 1 5 50 ∷ call ∷ Committed 1 end.Lost �
 -- a restart ends a loss, and a commit is answered Lost
 abbrev pub lost_again : Journal
 lost_again = in_order (Ran 1 (select_v 5) run.Lost ∷ Restarted (Ok 0) ∷ inserts 1 5 50 ∷ Committed 1 end.Lost ∷ [])
+
+-- 1 waits for 3, and 2 for 1
+abbrev pub two_wait : Journal
+two_wait = in_order (inserts 1 5 50 ∷ inserts 2 6 60 ∷ inserts 3 7 70 ∷ waits_for 1 7 3 ∷ waits_for 2 5 1 ∷ [])
+
+-- transactions that all wait for each of these
+abbrev pub each_waits : ℕ → List ℕ
+each_waits t = 1 ∷ 2 ∷ 3 ∷ []
+
+-- statements of which each needs the whole database for itself, or none needs anything
+abbrev pub whole : Stmt → Stmt → Bool
+whole s u = true
+
+abbrev pub nothing : Stmt → Stmt → Bool
+nothing s u = false

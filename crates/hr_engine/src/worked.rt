@@ -3,14 +3,16 @@
 ghost use Rattle.std.specs.Prelude.{◌≡◌, [], ◌∷◌, true, false, Some, None, Err};
 ghost use Rattle.hr_meaning.specs.Worked.{holding, row, select_v};
 ghost use Rattle.hr_engine.specs.Attempts.{is_running};
+ghost use Rattle.hr_rel.specs.declared.answer.Answer.TheVariants.{Rows};
 ghost use Rattle.hr_engine.specs.declared.reply.Lost.{Lost};
 ghost use Rattle.hr_engine.specs.declared.reply.RunReply.TheVariants as run;
 ghost use Rattle.hr_engine.specs.declared.reply.EndReply.TheVariants as end;
 ghost use Rattle.hr_engine.specs.Journal.{Ran, Committed, RolledBack, Restarted};
-ghost use Rattle.hr_engine.specs.Waits.{wait, standing, is_list_of_running};
+ghost use Rattle.hr_engine.specs.Waits.{wait, standing, is_list_of_running, is_sound_deadlock};
 ghost use Rattle.hr_engine.specs.Base.{base, bases, count};
 ghost use Rattle.hr_engine.specs.Rigorous.{IsSound, Rigorous};
-ghost use Rattle.hr_engine.specs.Worked.{two_open, read_uncommitted, cycle_blocked, runs_again, in_doubt, restarted, in_order, inserts, waits_for, committed, rolled_back, restarted_within, lost_within, closes_cycle, waiting, in_doubt_longer, commit_after, lost_again, deadlocked, deadlock_made_up};
+ghost use Rattle.hr_engine.specs.Exact.{closes, AreHolders, IsExactBlocked, IsExactDeadlock, IsExactRun};
+ghost use Rattle.hr_engine.specs.Worked.{two_open, read_uncommitted, cycle_blocked, runs_again, in_doubt, restarted, in_order, inserts, waits_for, committed, rolled_back, restarted_within, lost_within, closes_cycle, waiting, in_doubt_longer, commit_after, lost_again, deadlocked, deadlock_made_up, two_wait, each_waits, whole, nothing};
 
 /// Two transactions are open at once, and what they were answered doesn't depend on their order.
 pub fn two_attempts_open()
@@ -117,4 +119,37 @@ pub fn deadlock_that_stands()
 pub fn cycles_of_waits()
     ensures sound { IsSound (closes_cycle 2 5 1) (in_order (inserts 1 5 50 ∷ inserts 2 6 60 ∷ waits_for 1 6 2 ∷ [])) }
     ensures made_up { Rigorous (holding []) deadlock_made_up → ⊥ }
+{}
+
+/// A Deadlock reply begins with the asker, has others, all of them running and none twice, and each waits for the next.
+pub fn lists_of_deadlock()
+    ensures two { is_sound_deadlock (λ t. true) each_waits 2 (2 ∷ 1 ∷ []) ≡ true }
+    ensures three { is_sound_deadlock (λ t. true) each_waits 2 (2 ∷ 3 ∷ 1 ∷ []) ≡ true }
+    ensures nobody { is_sound_deadlock (λ t. true) each_waits 2 [] ≡ false }
+    ensures alone { is_sound_deadlock (λ t. true) each_waits 2 (2 ∷ []) ≡ false }
+    ensures other_first { is_sound_deadlock (λ t. true) each_waits 2 (1 ∷ 2 ∷ []) ≡ false }
+    ensures twice { is_sound_deadlock (λ t. true) each_waits 2 (2 ∷ 1 ∷ 1 ∷ []) ≡ false }
+    ensures idle { is_sound_deadlock (λ t. false) each_waits 2 (2 ∷ 1 ∷ []) ≡ false }
+    ensures no_wait { is_sound_deadlock (λ t. true) (λ t. []) 2 (2 ∷ 1 ∷ []) ≡ false }
+{}
+
+/// A cycle closes along a path whose first is in the asker's way, and of two that close the shorter is told.
+pub fn exact_deadlocks()
+    ensures direct { closes whole 3 (select_v 5) two_wait (1 ∷ []) ≡ true }
+    ensures longer { closes whole 3 (select_v 5) two_wait (2 ∷ 1 ∷ []) ≡ true }
+    ensures not_in_the_way { closes nothing 3 (select_v 5) two_wait (1 ∷ []) ≡ false }
+    ensures waits_for_other { closes whole 3 (select_v 5) two_wait (2 ∷ []) ≡ false }
+    ensures longer_not_told { IsExactDeadlock whole 3 (select_v 5) two_wait (2 ∷ 1 ∷ []) → ⊥ }
+    ensures not_closed { IsExactDeadlock nothing 3 (select_v 5) two_wait (1 ∷ []) → ⊥ }
+    ensures asker_first { IsExactRun whole 3 (select_v 5) two_wait (run.Deadlock (1 ∷ 3 ∷ [])) → ⊥ }
+{}
+
+/// A run isn't answered Blocked where a cycle closes or where it leaves out one that is in the way, nor Done where anything is.
+pub fn exact_runs()
+    ensures cycle_closes { IsExactBlocked whole 3 (select_v 5) two_wait (1 ∷ 2 ∷ []) → ⊥ }
+    ensures one_left_out { AreHolders whole 4 (select_v 5) two_wait (1 ∷ 2 ∷ []) → ⊥ }
+    ensures one_made_up { AreHolders nothing 4 (select_v 5) two_wait (1 ∷ []) → ⊥ }
+    ensures asker_named { AreHolders whole 3 (select_v 5) two_wait (1 ∷ 2 ∷ 3 ∷ []) → ⊥ }
+    ensures not_done { IsExactRun whole 4 (select_v 5) two_wait (run.Done (Rows [])) → ⊥ }
+    ensures never_lost { IsExactRun whole 4 (select_v 5) two_wait run.Lost → ⊥ }
 {}
