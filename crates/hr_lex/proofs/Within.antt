@@ -9,7 +9,8 @@ use Rattle.hr_lex.specs.declared.token.Keyword.{Keyword}
 use Rattle.hr_lex.specs.declared.token.Token.{Token}
 use Rattle.hr_lex.specs.declared.token.TokenKind.{TokenKind}
 use Rattle.hr_lex.specs.declared.token.LexError.{LexError}
-use Rattle.hr_lex.specs.Bytes.{is_letter, is_digit, is_name_byte, is_printable}
+use Rattle.hr_lex.specs.Bytes.{is_letter, is_digit, is_name_byte}
+use Rattle.hr_base.specs.Bytes.{is_printable}
 use Rattle.hr_lex.specs.Quotes.{closing}
 use Rattle.hr_lex.specs.Tokens.{word_of, number_of, quoted, sign_of, sign_at, token_at, Spans}
 

@@ -1,5 +1,6 @@
 -- Numbers in decimal digits.
-use Rattle.std.specs.Prelude.{ℕ, ◌+◌, ◌-◌, ◌*◌, ◌^◌, nat_le, List, [], ◌∷◌, Option, Some, None, if◌then◌else◌}
+use Rattle.std.specs.Prelude.{ℕ, ◌+◌, ◌-◌, ◌*◌, nat_le, List, [], ◌∷◌, Option, Some, None, if◌then◌else◌}
+use Rattle.hr_base.specs.declared.limits.TheConstants.{MAX_NUMBER}
 
 abbrev pub with_digit : ℕ → ℕ → ℕ
 with_digit n digit = n * 10 + (digit - 48)
@@ -14,4 +15,4 @@ number = number_from 0
 
 -- a number up to the largest that a token may have
 abbrev pub fitting : ℕ → Option ℕ
-fitting n = if nat_le n (2 ^ 63) then Some n else None
+fitting n = if nat_le n MAX_NUMBER then Some n else None

@@ -1,6 +1,6 @@
 -- Texts within quotes.
 use Rattle.std.specs.Prelude.{ℕ, ◌+◌, Bool, true, false, ◌==◌, List, [], ◌∷◌, Result, Ok, Err, if◌then◌else◌}
-use Rattle.hr_lex.specs.Bytes.{is_printable}
+use Rattle.hr_base.specs.Bytes.{is_printable}
 use Rattle.hr_lex.specs.declared.quote.QuoteFault.{QuoteFault}
 use Rattle.hr_lex.specs.declared.quote.QuoteFault.TheVariants.{Open, BadByte}
 

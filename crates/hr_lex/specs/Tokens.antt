@@ -1,6 +1,7 @@
 -- The tokens of a text. It is read from the left: blanks are passed over, and the longest token is taken each time.
 use Rattle.std.specs.Prelude.{◌≡◌, ◌<◌, ◌≤◌, ℕ, zero, suc, ◌+◌, ◌-◌, true, false, nat_le, nat_lt, List, [], ◌∷◌, ◌++◌, length, take, drop, slice_index, Option, Some, None, Result, Ok, Err, ◌==◌, if◌then◌else◌}
 use Rattle.std.specs.List.{prefix_len, AllByRecursion}
+use Rattle.hr_base.specs.declared.limits.TheConstants.{MAX_NAME_BYTES, MAX_SQL_BYTES}
 use Rattle.hr_lex.specs.Bytes.{is_blank, is_digit, is_letter, is_name_byte}
 use Rattle.hr_lex.specs.Keywords.{keyword}
 use Rattle.hr_lex.specs.Numbers.{number, fitting}
@@ -25,10 +26,10 @@ Spans at end t = (t.from ≡ at) × (at < t.to) × (t.to ≤ end)
 
 -- ---- the token at the front of a text, which stands at a place; or the error there
 
--- the longest run of letters and digits is a keyword, or a name of at most 32 bytes
+-- the longest run of letters and digits is a keyword, or a name that isn't too long
 abbrev pub word_of : ℕ → ℕ → Option Keyword → Result Token LexError
 word_of at len (Some k) = Ok (token (t.Keyword k) at (at + len))
-word_of at len None = if nat_le len 32 then Ok (token t.Name at (at + len)) else Err (e.NameTooLong at)
+word_of at len None = if nat_le len MAX_NAME_BYTES then Ok (token t.Name at (at + len)) else Err (e.NameTooLong at)
 
 abbrev pub word_at : ℕ → List ℕ → Result Token LexError
 word_at at text = let len = prefix_len is_name_byte text in word_of at len (keyword (take len text))
@@ -101,7 +102,7 @@ all_tokens read = elim read.error [ None ↦ Ok read.tokens | Some error ↦ Err
 
 -- the tokens of a text up to its first error; that the text is too long comes before all others
 abbrev pub read_of : List ℕ → Tokens
-read_of text = if nat_lt 1024 (length text) then record { tokens = []; error = Some e.TooLong } else reading zero 0 text
+read_of text = if nat_lt MAX_SQL_BYTES (length text) then record { tokens = []; error = Some e.TooLong } else reading zero 0 text
 
 -- the tokens of a text, or its first error
 abbrev pub tokens_of : List ℕ → Result (List Token) LexError
@@ -113,9 +114,9 @@ tokens_of text = all_tokens (read_of text)
 abbrev pub written : List ℕ → Token → List ℕ
 written text token = take (token.to - token.from) (drop token.from text)
 
--- letters and digits, at most 32
+-- letters and digits, no more than a name may have
 abbrev pub IsNameText : List ℕ → Type 0
-IsNameText bytes = (length bytes ≤ 32) × AllByRecursion (λ b. is_name_byte b ≡ true) bytes
+IsNameText bytes = (length bytes ≤ MAX_NAME_BYTES) × AllByRecursion (λ b. is_name_byte b ≡ true) bytes
 
 -- a token stands on bytes of the text, and a name's are those of a name
 abbrev pub IsTokenOf : List ℕ → Token → Type 0

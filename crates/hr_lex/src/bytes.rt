@@ -30,13 +30,6 @@ pub fn is_name_byte(b: u8) -> bool
     is_letter(b) || is_digit(b)
 }
 
-/// Whether the byte may stand within quotes.
-pub fn is_printable(b: u8) -> bool
-    ensures { result ≡ spec.is_printable b }
-{
-    0x20 <= b && b <= 0x7E
-}
-
 /// How many bytes at the front a name may go on with.
 pub fn name_len(bytes: &[u8]) -> usize
     ensures value { result ≡ prefix_len spec.is_name_byte bytes.now }

@@ -5,17 +5,16 @@ ghost use Rattle.std.specs.List.{AllByRecursion};
 ghost use Rattle.hr_lex.specs.Numbers as spec;
 ghost use Rattle.hr_lex.specs.Bytes.{IsDigit};
 
-/// The largest number of a token: 2 to the 63, whose negation is the least signed number.
-const LARGEST: u64 = 9_223_372_036_854_775_808;
+use hr_base::limits::MAX_NUMBER;
 
 /// The number with one more digit, where it is not past the largest.
 fn with_digit(number: u64, digit: u8) -> Option<u64>
-    requires least { number ≤ 2 ^ 63 }
+    requires least { number ≤ MAX_NUMBER }
     requires digit { IsDigit digit }
     ensures { result ≡ spec.fitting (spec.with_digit number digit) }
 {
     let longer = u128::from(number) * 10 + u128::from(digit - b'0');
-    u64::try_from(longer).ok().filter(|n| *n <= LARGEST)
+    u64::try_from(longer).ok().filter(|n| *n <= MAX_NUMBER)
 }
 
 /// The number that digits write, where it is not past the largest.

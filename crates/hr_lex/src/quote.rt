@@ -3,7 +3,7 @@
 ghost use Rattle.std.specs.Prelude.{◌≡◌, ◌≤◌, ◌+◌, ◌<◌, ◌^◌, length, IfOk, false};
 ghost use Rattle.hr_lex.specs.Quotes as spec;
 
-use crate::bytes::is_printable;
+use hr_base::is_printable;
 
 /// Why a quote is not closed.
 #[derive(Clone, Copy, Debug)]

@@ -12,10 +12,8 @@ use crate::number::number;
 use crate::quote::{QuoteFault, closing};
 use crate::sign::{long_sign, short_sign};
 use crate::token::{LexError, Token, TokenKind};
+use hr_base::limits::{MAX_NAME_BYTES, MAX_SQL_BYTES};
 use std::alloc::{AllocError, Global};
-
-/// The most bytes that a text may have.
-const MOST_BYTES: usize = 1024;
 
 /// The tokens of a text up to its first error, and that error.
 #[derive(Debug, Drop)]
@@ -27,7 +25,7 @@ pub struct Reading {
 /// The keyword or name at the front of `bytes`, which stand at `at`.
 fn word_at(at: u32, bytes: &[u8]) -> Result<Token, LexError>
     requires some { 0 < prefix_len is_name_byte bytes.now }
-    requires fits { at + length bytes.now ≤ 1024 }
+    requires fits { at + length bytes.now ≤ MAX_SQL_BYTES }
     ensures value { result ≡ spec.word_at at bytes.now }
     ensures span { IfOk result (spec.Spans at (at + length bytes.now)) }
 {
@@ -39,7 +37,7 @@ fn word_at(at: u32, bytes: &[u8]) -> Result<Token, LexError>
             from: at,
             to,
         }),
-        None if len <= 32 => Ok(Token {
+        None if len <= MAX_NAME_BYTES => Ok(Token {
             kind: TokenKind::Name,
             from: at,
             to,
@@ -51,7 +49,7 @@ fn word_at(at: u32, bytes: &[u8]) -> Result<Token, LexError>
 /// The number at the front of `bytes`, which stand at `at`.
 fn number_at(at: u32, bytes: &[u8]) -> Result<Token, LexError>
     requires some { 0 < prefix_len is_digit bytes.now }
-    requires fits { at + length bytes.now ≤ 1024 }
+    requires fits { at + length bytes.now ≤ MAX_SQL_BYTES }
     ensures value { result ≡ spec.number_at at bytes.now }
     ensures span { IfOk result (spec.Spans at (at + length bytes.now)) }
 {
@@ -68,7 +66,7 @@ fn number_at(at: u32, bytes: &[u8]) -> Result<Token, LexError>
 
 /// The text whose opening quote stands at `at`, before `bytes`.
 fn text_at(at: u32, bytes: &[u8]) -> Result<Token, LexError>
-    requires { at + length bytes.now < 1024 }
+    requires { at + length bytes.now < MAX_SQL_BYTES }
     ensures value { result ≡ spec.quoted at (closing false (at + 1) bytes.now) }
     ensures span { IfOk result (spec.Spans at (at + 1 + length bytes.now)) }
 {
@@ -85,7 +83,7 @@ fn text_at(at: u32, bytes: &[u8]) -> Result<Token, LexError>
 
 /// The sign at the front of `bytes`, which stand at `at`.
 fn sign_at(at: u32, bytes: &[u8]) -> Result<Token, LexError>
-    requires { at + length bytes.now ≤ 1024 }
+    requires { at + length bytes.now ≤ MAX_SQL_BYTES }
     ensures value { result ≡ spec.sign_at at bytes.now }
     ensures span { IfOk result (spec.Spans at (at + length bytes.now)) }
 {
@@ -116,7 +114,7 @@ fn sign_at(at: u32, bytes: &[u8]) -> Result<Token, LexError>
 #[tactic(auto, unfolding(crate::specs::Tokens::token_at))]
 fn token_at(at: u32, bytes: &[u8]) -> Result<Token, LexError>
     requires some { 0 < length bytes.now }
-    requires fits { at + length bytes.now ≤ 1024 }
+    requires fits { at + length bytes.now ≤ MAX_SQL_BYTES }
     ensures value { result ≡ spec.token_at at bytes.now }
     ensures span { IfOk result (spec.Spans at (at + length bytes.now)) }
 {
@@ -134,7 +132,7 @@ fn token_at(at: u32, bytes: &[u8]) -> Result<Token, LexError>
 
 /// The tokens of the text's bytes, of which there are few enough, up to the first error.
 fn read_bytes(alloc: Global, bytes: &[u8]) -> Result<Reading, AllocError>
-    requires { length bytes.now ≤ 1024 }
+    requires { length bytes.now ≤ MAX_SQL_BYTES }
     ensures value { IfOk result (λ r. spec.reading_of r ≡ spec.reading zero 0 bytes.now) }
     ensures each { IfOk result (λ r. AllByRecursion (spec.IsTokenOf bytes.now) r.tokens.items) }
 {
@@ -171,10 +169,10 @@ fn read_bytes(alloc: Global, bytes: &[u8]) -> Result<Reading, AllocError>
 pub fn read(alloc: Global, text: &str) -> Result<Reading, AllocError>
     ensures value { IfOk result (λ r. spec.reading_of r ≡ spec.read_of text.now) }
     ensures each { IfOk result (λ r. AllByRecursion (spec.IsTokenOf text.now) r.tokens.items) }
-    ensures tiles { IfOk result (λ r. length text.now ≤ 1024 → spec.TilesUpTo text.now 0 r.tokens.items r.error) }
+    ensures tiles { IfOk result (λ r. length text.now ≤ MAX_SQL_BYTES → spec.TilesUpTo text.now 0 r.tokens.items r.error) }
 {
     let bytes = text.as_bytes();
-    if bytes.len() > MOST_BYTES {
+    if bytes.len() > MAX_SQL_BYTES {
         return Ok(Reading {
             tokens: Vec::new(alloc),
             error: Some(LexError::TooLong),

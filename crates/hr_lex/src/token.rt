@@ -88,7 +88,7 @@ pub enum LexError {
     OpenText(u32),
     /// The first digit of a number past 9223372036854775808.
     NumberTooLarge(u32),
-    /// The first letter of a name of more than 32 bytes.
+    /// The first letter of a name of more bytes than it may have.
     NameTooLong(u32),
     /// The text has more than 1,024 bytes.
     TooLong,
