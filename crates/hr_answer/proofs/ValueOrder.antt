@@ -15,7 +15,7 @@ use Rattle.hr_rel.specs.declared.value.Value.TheVariants.{Null, Int, Text}
 use Rattle.hr_rel.specs.contracts.value.ValueOrd.TheImpl.{cmp-value}
 use Rattle.hr_rel.specs.declared.answer.Answer.{Answer}
 use Rattle.hr_rel.specs.declared.answer.Answer.TheVariants.{Rows}
-use Rattle.hr_rel.specs.SameAnswer.{SameAnswer}
+use Rattle.hr_meaning.specs.SameAnswer.{SameAnswer}
 use Rattle.hr_answer.specs.Canonical.{value_cmp, row_cmp, IsCanonical}
 use Rattle.hr_answer.proofs.Ascending.{sorted_same}
 

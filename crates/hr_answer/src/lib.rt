@@ -2,7 +2,7 @@
 #![tactic(auto)]
 
 ghost use Rattle.std.specs.Prelude.{◌≡◌, ◌↔◌, IsTrue};
-ghost use Rattle.hr_rel.specs.SameAnswer.{SameAnswer};
+ghost use Rattle.hr_meaning.specs.SameAnswer.{SameAnswer};
 ghost use Rattle.hr_answer.specs.Canonical.{IsCanonical};
 
 use hr_rel::{Answer, Row, RunError, Seq};

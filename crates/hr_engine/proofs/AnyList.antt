@@ -2,16 +2,16 @@
 use Rattle.std.proofs.Common.{◌≡◌, ℕ, Bool, true, false, cond, not, IsTrue, List, [], ◌∷◌, map, refl, subst, sym}
 use Rattle.std.specs.List.{filter, list_all, AllZip}
 use Rattle.hr_rel.specs.Database.{Database}
-use Rattle.hr_rel.specs.Serial.{play, serial_answers}
-use Rattle.hr_rel.specs.SameAnswer.{SameAnswer}
+use Rattle.hr_meaning.specs.Serial.{play, serial_answers}
+use Rattle.hr_meaning.specs.SameAnswer.{SameAnswer}
 use Rattle.hr_engine.specs.Journal.{Journal}
-use Rattle.hr_engine.specs.Attempts.{Step, attempt, statements, answers, is_running}
+use Rattle.hr_engine.specs.Attempts.{RanStmt, attempt, statements, answers, is_running}
 use Rattle.hr_engine.specs.Base.{base}
 use Rattle.hr_engine.specs.Rigorous.{InOrder, AnyOrder, Rigorous}
-use Rattle.hr_engine.specs.Lists.{is_empty, is_distinct}
-use Rattle.hr_engine.proofs.ListLaws.{all_from_has, has-filter, filter_distinct}
+use Rattle.hr_base.specs.Lists.{is_empty, is_distinct}
+use Rattle.hr_base.proofs.ListLaws.{all_from_has, has-filter, filter_distinct}
 
-nothing_done : (steps : List Step) → not (is_empty steps) ≡ false → steps ≡ []
+nothing_done : (steps : List RanStmt) → not (is_empty steps) ≡ false → steps ≡ []
 nothing_done [] h = refl
 nothing_done (s ∷ steps) h = cc
 
@@ -23,7 +23,7 @@ module _ (journal : Journal) where
   -- who doesn't run plays nothing
   idle_plays : (db : Database) (t : ℕ) (ts : List ℕ) → attempt t journal ≡ [] → PlaysIn db ts → PlaysIn db (t ∷ ts)
   idle_plays db t ts idle rest =
-      let P : List Step → Type 0 = λ steps. AllZip SameAnswer (play db (statements steps)).answers (answers steps) × PlaysIn (play db (statements steps)).after ts in
+      let P : List RanStmt → Type 0 = λ steps. AllZip SameAnswer (play db (statements steps)).answers (answers steps) × PlaysIn (play db (statements steps)).after ts in
       subst P (sym idle) (tt, rest)
 
   with_idle_step : (db : Database) (t : ℕ) (ts : List ℕ) (b : Bool) → is_running t journal ≡ b

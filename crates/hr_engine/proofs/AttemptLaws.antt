@@ -7,8 +7,8 @@ use Rattle.hr_rel.specs.declared.stmt.Stmt.{Stmt}
 use Rattle.hr_engine.specs.declared.reply.RunReply.TheVariants as run
 use Rattle.hr_engine.specs.declared.reply.EndReply.TheVariants as end
 use Rattle.hr_engine.specs.Journal.{Ran, Committed, RolledBack, Journal}
-use Rattle.hr_engine.specs.Attempts.{Step, attempt, IsRunning, is_running}
-use Rattle.hr_engine.specs.Lists.{is_empty}
+use Rattle.hr_engine.specs.Attempts.{RanStmt, attempt, IsRunning, is_running}
+use Rattle.hr_base.specs.Lists.{is_empty}
 
 -- the branch of a test for the same transaction, and for another
 pub same_txn : {X : Type 0} (t : ℕ) (x y : X) → cond (t == t) x y ≡ x
@@ -17,7 +17,7 @@ same_txn t x y = ap (λ b. cond b x y) (eq-eqb t t refl)
 pub other_txn : {X : Type 0} (t u : ℕ) (x y : X) → (t ≡ u → ⊥) → cond (t == u) x y ≡ y
 other_txn t u x y differ = ap (λ b. cond b x y) (ne_eqb t u differ)
 
-nonempty : (steps : List Step) (s : Step) → is_empty (steps ++ s ∷ []) ≡ false
+nonempty : (steps : List RanStmt) (s : RanStmt) → is_empty (steps ++ s ∷ []) ≡ false
 nonempty [] s = refl
 nonempty (r ∷ steps) s = refl
 
@@ -30,7 +30,7 @@ module _ (journal : Journal) (t : ℕ) (stmt : Stmt) (answer : Answer) where
   pub attempt-done_other : (u : ℕ) → (u ≡ t → ⊥) → attempt u (Ran t stmt (run.Done answer) ∷ journal) ≡ attempt u journal
   attempt-done_other u differ = other_txn u t _ _ differ
 
-  done_by : (b : Bool) (steps : List Step) → not (is_empty (cond b (steps ++ record { stmt = stmt; answer = answer } ∷ []) steps)) ≡ b || not (is_empty steps)
+  done_by : (b : Bool) (steps : List RanStmt) → not (is_empty (cond b (steps ++ record { stmt = stmt; answer = answer } ∷ []) steps)) ≡ b || not (is_empty steps)
   done_by true steps = ap not (nonempty steps _)
   done_by false steps = refl
 

@@ -2,12 +2,15 @@
 use Rattle.std.proofs.Common.{◌≡◌, ℕ, ◌+◌, ◌≤◌, Bool, true, false, cond, ◌==◌, Option, Some, None, Ok, Err, List, [], ◌∷◌, ◌++◌, length, refl, ap, arith, length-append}
 use Rattle.hr_rel.specs.declared.stmt.Stmt.{Stmt}
 use Rattle.hr_rel.specs.Database.{Database}
-use Rattle.hr_rel.specs.Serial.{play}
+use Rattle.hr_meaning.specs.Serial.{play}
 use Rattle.hr_engine.specs.declared.reply.RunReply.TheVariants as run
 use Rattle.hr_engine.specs.declared.reply.EndReply.TheVariants as end
 use Rattle.hr_engine.specs.Journal.{Call, Ran, Committed, RolledBack, Restarted, Journal}
+use Rattle.hr_engine.specs.Effects.{Settling, settling_of}
+use Rattle.hr_engine.specs.Effects as does
 use Rattle.hr_engine.specs.Attempts.{attempt, statements}
-use Rattle.hr_engine.specs.Base.{Settled, settled, next_settled, attempt_at, with_doubt, shown, count, base}
+use Rattle.hr_engine.specs.Base.{Settled, settled, next_settled, attempt_at, with_doubt, count, base}
+use Rattle.hr_base.specs.Counters.{shown}
 use Rattle.hr_engine.proofs.SerialLaws.{database_after-append}
 
 module _ (journal : Journal) (t : ℕ) where
@@ -47,20 +50,13 @@ with_doubt_le told (Some stmts) commits = by_test (told == shown (length commits
     by_test false = omega arith
 
 -- a call makes at most one commit count
-count_step : (call : Call) (stmts : List Stmt) (s : Settled) → length (next_settled call stmts s).commits ≤ length s.commits + 1
-count_step (Ran t u (run.Done answer)) stmts s = omega arith
-count_step (Ran t u (run.Blocked named)) stmts s = omega arith
-count_step (Ran t u (run.Deadlock cycle)) stmts s = omega arith
-count_step (Ran t u run.Lost) stmts s = omega arith
-count_step (Ran t u run.NoMemory) stmts s = omega arith
-count_step (Committed t end.Done) stmts s = omega (arith, length-append s.commits (stmts ∷ []))
-count_step (Committed t end.Lost) stmts s = omega arith
-count_step (RolledBack t end.Done) stmts s = omega arith
-count_step (RolledBack t end.Lost) stmts s = omega arith
-count_step (Restarted (Ok told)) stmts s = with_doubt_le told s.doubt s.commits
-count_step (Restarted (Err lost)) stmts s = omega arith
+count_step : (settling : Settling) (stmts : List Stmt) (s : Settled) → length (next_settled settling stmts s).commits ≤ length s.commits + 1
+count_step does.Counts stmts s = omega (arith, length-append s.commits (stmts ∷ []))
+count_step (does.Loses at_commit) stmts s = omega arith
+count_step (does.Tells told) stmts s = with_doubt_le told s.doubt s.commits
+count_step does.Keeps stmts s = omega arith
 
 -- no more commits count than calls were made
 pub count_le : (journal : Journal) → count journal ≤ length journal
 count_le [] = omega arith
-count_le (call ∷ before) = omega (arith, count_le before, count_step call (statements (attempt_at call before)) (settled before))
+count_le (call ∷ before) = omega (arith, count_le before, count_step (settling_of call) (statements (attempt_at call before)) (settled before))

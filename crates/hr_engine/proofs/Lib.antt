@@ -1,4 +1,3 @@
-pub mod ListLaws
 pub mod SerialLaws
 pub mod SameAnswers
 pub mod Orders

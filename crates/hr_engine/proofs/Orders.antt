@@ -5,7 +5,7 @@ use Rattle.hr_rel.specs.Database.{Database}
 use Rattle.hr_engine.specs.Journal.{Journal}
 use Rattle.hr_engine.specs.Attempts.{IsRunning, is_running}
 use Rattle.hr_engine.specs.Rigorous.{InOrder, AnyOrder}
-use Rattle.hr_engine.specs.Lists.{has, is_distinct}
+use Rattle.hr_base.specs.Lists.{has, is_distinct}
 
 -- no transaction stands twice in a list of different ones
 pub not_next : (t u : ℕ) (ts : List ℕ) → t ≡ u → IsTrue (is_distinct (t ∷ u ∷ ts)) → ⊥

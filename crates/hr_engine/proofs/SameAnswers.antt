@@ -4,7 +4,7 @@ use Rattle.std.specs.List.{AllZip}
 use Rattle.std.proofs.lemmas.List.Sorted.{IsPermutation-refl}
 use Rattle.hr_rel.specs.declared.answer.Answer.{Answer}
 use Rattle.hr_rel.specs.declared.answer.Answer.TheVariants.{Rows, Count, Failed}
-use Rattle.hr_rel.specs.SameAnswer.{SameAnswer}
+use Rattle.hr_meaning.specs.SameAnswer.{SameAnswer}
 
 pub same_itself : (a : Answer) → SameAnswer a a
 same_itself (Rows rows) = IsPermutation-refl rows

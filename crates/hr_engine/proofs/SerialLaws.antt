@@ -2,8 +2,8 @@
 use Rattle.std.proofs.Common.{◌≡◌, List, [], ◌∷◌, ◌++◌, refl, ap}
 use Rattle.hr_rel.specs.declared.stmt.Stmt.{Stmt}
 use Rattle.hr_rel.specs.Database.{Database}
-use Rattle.hr_rel.specs.Exec.{exec}
-use Rattle.hr_rel.specs.Serial.{Played, play, database_after}
+use Rattle.hr_meaning.specs.Exec.{exec}
+use Rattle.hr_meaning.specs.Serial.{Played, play, database_after}
 
 -- two lists of statements played one after the other
 abbrev pub then_played : Played → Played → Played

@@ -9,10 +9,11 @@ use Rattle.hr_engine.specs.declared.reply.Lost.{Lost}
 use Rattle.hr_engine.specs.declared.reply.RunReply.TheVariants as run
 use Rattle.hr_engine.specs.declared.reply.EndReply.TheVariants as end
 use Rattle.hr_engine.specs.Journal.{Ran, Committed, RolledBack, Restarted, Journal}
+use Rattle.hr_engine.specs.Effects.{effect_of}
 use Rattle.hr_engine.specs.Attempts.{is_running}
 use Rattle.hr_engine.specs.Waits.{standing, next_standing, if_all}
-use Rattle.hr_engine.specs.Lists.{has}
-use Rattle.hr_engine.proofs.ListLaws.{all_has, all_agree_on}
+use Rattle.hr_base.specs.Lists.{has}
+use Rattle.hr_base.proofs.ListLaws.{all_has, all_agree_on}
 use Rattle.hr_engine.proofs.AttemptLaws.{same_txn, other_txn, is_running-done}
 use Rattle.hr_engine.proofs.WaitLaws.{still_runs}
 
@@ -29,7 +30,7 @@ pub standing_runs : (t : ℕ) (journal : Journal) (cycle : List ℕ) → standin
 standing_runs t [] cycle stands u h = cc
 standing_runs t (call ∷ before) cycle stands u h =
     let runs = λ (x : ℕ). is_running x (call ∷ before) in
-    all_has runs cycle (all_then runs (next_standing t call (standing t before)) cycle stands) u h
+    all_has runs cycle (all_then runs (next_standing t (effect_of call) (standing t before)) cycle stands) u h
 
 -- tests that agree on the members of a list, if there is one, keep it or drop it alike
 alike : (p q : ℕ → Bool) (s : Option (List ℕ)) → ((cycle : List ℕ) → s ≡ Some cycle → (u : ℕ) → has cycle u ≡ true → p u ≡ q u)

@@ -7,38 +7,36 @@ use Rattle.hr_rel.specs.declared.stmt.Stmt.{Stmt}
 use Rattle.hr_engine.specs.declared.reply.RunReply.TheVariants as run
 use Rattle.hr_engine.specs.declared.reply.EndReply.TheVariants as end
 use Rattle.hr_engine.specs.Journal.{Call, Ran, Committed, RolledBack, Restarted, Journal}
+use Rattle.hr_engine.specs.Effects.{Effect, effect_of}
+use Rattle.hr_engine.specs.Effects as does
 use Rattle.hr_engine.specs.Attempts.{attempt, is_running}
 use Rattle.hr_engine.specs.Waits.{wait, next_wait, is_chain, Leads}
-use Rattle.hr_engine.specs.Lists.{has, is_empty, is_distinct, once}
-use Rattle.hr_engine.proofs.ListLaws.{filter_all, filter_agree_on, has-filter, filter_distinct, once_distinct}
+use Rattle.hr_base.specs.Lists.{has, is_empty, is_distinct, once}
+use Rattle.hr_base.proofs.ListLaws.{filter_all, filter_agree_on, has-filter, filter_distinct, once_distinct}
 use Rattle.hr_engine.proofs.AttemptLaws.{same_txn, other_txn, is_running-done}
 
 -- who is waited for runs
 pub wait_runs : (t u : ℕ) (journal : Journal) → has (wait t journal) u ≡ true → is_running u journal ≡ true
 wait_runs t u [] h = cc
-wait_runs t u (call ∷ before) h = (has-filter (λ x. is_running x (call ∷ before)) (next_wait t call (wait t before)) u h).0
+wait_runs t u (call ∷ before) h = (has-filter (λ x. is_running x (call ∷ before)) (next_wait t (effect_of call) (wait t before)) u h).0
 
 -- a wait names each transaction once
 distinct_if : (b : Bool) (ts us : List ℕ) → IsTrue (is_distinct ts) → IsTrue (is_distinct us) → IsTrue (is_distinct (cond b ts us))
 distinct_if true ts us h k = h
 distinct_if false ts us h k = k
 
-next_distinct : (t : ℕ) (call : Call) (named : List ℕ) → IsTrue (is_distinct named) → IsTrue (is_distinct (next_wait t call named))
-next_distinct t (Ran u stmt (run.Done answer)) named h = distinct_if (t == u) [] named refl h
-next_distinct t (Ran u stmt (run.Blocked them)) named h = distinct_if (t == u) (once them) named (once_distinct them) h
-next_distinct t (Ran u stmt (run.Deadlock cycle)) named h = distinct_if (t == u) [] named refl h
-next_distinct t (Ran u stmt run.Lost) named h = refl
-next_distinct t (Ran u stmt run.NoMemory) named h = h
-next_distinct t (Committed u end.Done) named h = distinct_if (t == u) [] named refl h
-next_distinct t (Committed u end.Lost) named h = refl
-next_distinct t (RolledBack u end.Done) named h = distinct_if (t == u) [] named refl h
-next_distinct t (RolledBack u end.Lost) named h = refl
-next_distinct t (Restarted told) named h = refl
+next_distinct : (t : ℕ) (effect : Effect) (named : List ℕ) → IsTrue (is_distinct named) → IsTrue (is_distinct (next_wait t effect named))
+next_distinct t (does.Runs u stmt answer) named h = distinct_if (t == u) [] named refl h
+next_distinct t (does.Waits u them) named h = distinct_if (t == u) (once them) named (once_distinct them) h
+next_distinct t (does.Closes u cycle) named h = distinct_if (t == u) [] named refl h
+next_distinct t (does.Ends u) named h = distinct_if (t == u) [] named refl h
+next_distinct t does.EndsAll named h = refl
+next_distinct t does.Nothing named h = h
 
 pub wait_distinct : (t : ℕ) (journal : Journal) → IsTrue (is_distinct (wait t journal))
 wait_distinct t [] = refl
 wait_distinct t (call ∷ before) =
-    filter_distinct (λ u. is_running u (call ∷ before)) (next_wait t call (wait t before)) (next_distinct t call (wait t before) (wait_distinct t before))
+    filter_distinct (λ u. is_running u (call ∷ before)) (next_wait t (effect_of call) (wait t before)) (next_distinct t (effect_of call) (wait t before) (wait_distinct t before))
 
 -- a transaction that waits for nobody begins no chain
 pub no_chain : (waits : ℕ → List ℕ) (t u : ℕ) (path : List ℕ) → waits t ≡ [] → is_chain waits (t ∷ path ++ u ∷ []) ≡ false
@@ -50,9 +48,9 @@ leads_nowhere waits t u none leads = let never = no_chain waits t u leads.0 none
 
 module _ (journal : Journal) (t : ℕ) where
   -- who waited for nobody, and isn't answered Blocked by this call, waits for nobody
-  pub no_wait_more : (call : Call) → next_wait t call [] ≡ [] → wait t journal ≡ [] → wait t (call ∷ journal) ≡ []
+  pub no_wait_more : (call : Call) → next_wait t (effect_of call) [] ≡ [] → wait t journal ≡ [] → wait t (call ∷ journal) ≡ []
   no_wait_more call stays none =
-      let next : next_wait t call (wait t journal) ≡ [] = ap (next_wait t call) none ∙ stays in
+      let next : next_wait t (effect_of call) (wait t journal) ≡ [] = ap (next_wait t (effect_of call)) none ∙ stays in
       ap (filter (λ u. is_running u (call ∷ journal))) next
 
   -- a reply Done ends the wait of the transaction that runs

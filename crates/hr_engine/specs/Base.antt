@@ -1,17 +1,15 @@
 -- What a journal tells of the database: which commits count, and what they leave.
-use Rattle.std.specs.Prelude.{◌≡◌, ◌⊎◌, ℕ, ◌+◌, ◌-◌, ◌^◌, min, Bool, true, false, ◌==◌, if◌then◌else◌, Option, Some, None, IsSome, Ok, Err, List, [], ◌∷◌, ◌++◌, length, option_to_list}
+use Rattle.std.specs.Prelude.{◌≡◌, ◌⊎◌, ℕ, ◌+◌, Bool, true, false, ◌==◌, if◌then◌else◌, Option, Some, None, IsSome, List, [], ◌∷◌, ◌++◌, length, option_to_list}
 use Rattle.std.specs.Option.{option_map}
+use Rattle.hr_base.specs.Lists.{when}
+use Rattle.hr_base.specs.Counters.{shown}
 use Rattle.hr_rel.specs.declared.stmt.Stmt.{Stmt}
 use Rattle.hr_rel.specs.Database.{Database}
-use Rattle.hr_rel.specs.Serial.{play, database_after}
-use Rattle.hr_engine.specs.declared.reply.RunReply.TheVariants as run
-use Rattle.hr_engine.specs.declared.reply.EndReply.TheVariants as end
+use Rattle.hr_meaning.specs.Serial.{play, database_after}
 use Rattle.hr_engine.specs.Journal.{Call, Ran, Committed, RolledBack, Restarted, Journal}
-use Rattle.hr_engine.specs.Attempts.{Step, attempt, statements}
-
--- what a counter of 64 bits shows after n steps: it stands still at its last number
-abbrev pub shown : ℕ → ℕ
-shown n = min n (2 ^ 64 - 1)
+use Rattle.hr_engine.specs.Effects.{Settling, settling_of}
+use Rattle.hr_engine.specs.Effects as does
+use Rattle.hr_engine.specs.Attempts.{RanStmt, attempt, statements}
 
 -- What a journal settles.
 pub record Settled : Type 0 where
@@ -40,21 +38,14 @@ abbrev pub at_restart : ℕ → Settled → Settled
 at_restart told s = record { commits = with_doubt told s.doubt s.commits; doubt = None; lost = false }
 
 -- what a call makes of what was settled, where its transaction's attempt had these statements
-abbrev pub next_settled : Call → List Stmt → Settled → Settled
-next_settled (Ran t stmt (run.Done answer)) stmts s = s
-next_settled (Ran t stmt (run.Blocked named)) stmts s = s
-next_settled (Ran t stmt (run.Deadlock cycle)) stmts s = s
-next_settled (Ran t stmt run.Lost) stmts s = at_loss None s
-next_settled (Ran t stmt run.NoMemory) stmts s = s
-next_settled (Committed t end.Done) stmts s = and_commit stmts s
-next_settled (Committed t end.Lost) stmts s = at_loss (Some stmts) s
-next_settled (RolledBack t end.Done) stmts s = s
-next_settled (RolledBack t end.Lost) stmts s = at_loss None s
-next_settled (Restarted (Ok told)) stmts s = at_restart told s
-next_settled (Restarted (Err lost)) stmts s = at_loss None s
+abbrev pub next_settled : Settling → List Stmt → Settled → Settled
+next_settled does.Counts stmts s = and_commit stmts s
+next_settled (does.Loses at_commit) stmts s = at_loss (when at_commit stmts) s
+next_settled (does.Tells told) stmts s = at_restart told s
+next_settled does.Keeps stmts s = s
 
 -- the attempt that a call is about
-abbrev pub attempt_at : Call → Journal → List Step
+abbrev pub attempt_at : Call → Journal → List RanStmt
 attempt_at (Ran t stmt reply) journal = attempt t journal
 attempt_at (Committed t reply) journal = attempt t journal
 attempt_at (RolledBack t reply) journal = attempt t journal
@@ -64,7 +55,7 @@ attempt_at (Restarted told) journal = []
 -- it begins is in doubt as long; the restart that ends the loss settles whether it counts.
 abbrev pub settled : Journal → Settled
 settled [] = record { commits = []; doubt = None; lost = false }
-settled (call ∷ before) = next_settled call (statements (attempt_at call before)) (settled before)
+settled (call ∷ before) = next_settled (settling_of call) (statements (attempt_at call before)) (settled before)
 
 -- how many commits count
 abbrev pub count : Journal → ℕ

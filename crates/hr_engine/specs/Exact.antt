@@ -8,16 +8,17 @@ use Rattle.hr_engine.specs.declared.reply.RunReply.{RunReply}
 use Rattle.hr_engine.specs.declared.reply.RunReply.TheVariants as run
 use Rattle.hr_engine.specs.declared.reply.EndReply.TheVariants as end
 use Rattle.hr_engine.specs.Journal.{Call, Ran, Committed, RolledBack, Restarted, Journal}
-use Rattle.hr_engine.specs.Attempts.{Step, attempt}
+use Rattle.hr_engine.specs.Attempts.{RanStmt, attempt}
 use Rattle.hr_engine.specs.Waits.{wait, is_chain}
-use Rattle.hr_engine.specs.Base.{count, shown}
-use Rattle.hr_engine.specs.Lists.{has, is_ascending}
+use Rattle.hr_engine.specs.Base.{count}
+use Rattle.hr_base.specs.Counters.{shown}
+use Rattle.hr_base.specs.Lists.{has, is_ascending}
 
 -- `conflict s u`: what the statements s and u need has an item in common, which one of them needs for itself alone.
 module _ (conflict : Stmt → Stmt → Bool) where
   -- whether a transaction holds what conflicts with the statement: a running one holds the needs of its attempt
   abbrev pub is_in_the_way : Stmt → Journal → ℕ → Bool
-  is_in_the_way stmt journal t = list_any (λ (s : Step). conflict s.stmt stmt) (attempt t journal)
+  is_in_the_way stmt journal t = list_any (λ (s : RanStmt). conflict s.stmt stmt) (attempt t journal)
 
   -- the list is, in ascending order, all the others that are in the way of the asker's statement
   pub record AreHolders (asker : ℕ) (stmt : Stmt) (journal : Journal) (holders : List ℕ) : Type 0 where

@@ -1,5 +1,5 @@
-pub mod Lists
 pub mod Journal
+pub mod Effects
 pub mod Attempts
 pub mod Waits
 pub mod Base

@@ -1,43 +1,35 @@
 -- What a journal tells of waits, and when a reply that tells of waits is sound.
 use Rattle.std.specs.Prelude.{ℕ, Bool, true, false, not, ◌&&◌, ◌==◌, if◌then◌else◌, Option, Some, None, List, [], ◌∷◌, ◌++◌, filter, option_and_then, IsTrue}
 use Rattle.std.specs.List.{list_all}
-use Rattle.hr_engine.specs.declared.reply.RunReply.TheVariants as run
-use Rattle.hr_engine.specs.declared.reply.EndReply.TheVariants as end
-use Rattle.hr_engine.specs.Journal.{Call, Ran, Committed, RolledBack, Restarted, Journal}
+use Rattle.hr_engine.specs.Journal.{Journal}
+use Rattle.hr_engine.specs.Effects.{Effect, effect_of}
+use Rattle.hr_engine.specs.Effects as does
 use Rattle.hr_engine.specs.Attempts.{is_running}
-use Rattle.hr_engine.specs.Lists.{is_empty, has, is_distinct, is_ascending, once}
+use Rattle.hr_base.specs.Lists.{is_empty, has, is_distinct, is_ascending, once}
 
 -- whom t waits for after a call, if each of them runs
-abbrev pub next_wait : ℕ → Call → List ℕ → List ℕ
-next_wait t (Ran u stmt (run.Done answer)) named = if t == u then [] else named
-next_wait t (Ran u stmt (run.Blocked them)) named = if t == u then once them else named
-next_wait t (Ran u stmt (run.Deadlock cycle)) named = if t == u then [] else named
-next_wait t (Ran u stmt run.Lost) named = []
-next_wait t (Ran u stmt run.NoMemory) named = named
-next_wait t (Committed u end.Done) named = if t == u then [] else named
-next_wait t (Committed u end.Lost) named = []
-next_wait t (RolledBack u end.Done) named = if t == u then [] else named
-next_wait t (RolledBack u end.Lost) named = []
-next_wait t (Restarted told) named = []
+abbrev pub next_wait : ℕ → Effect → List ℕ → List ℕ
+next_wait t (does.Runs u stmt answer) named = if t == u then [] else named
+next_wait t (does.Waits u them) named = if t == u then once them else named
+next_wait t (does.Closes u cycle) named = if t == u then [] else named
+next_wait t (does.Ends u) named = if t == u then [] else named
+next_wait t does.EndsAll named = []
+next_wait t does.Nothing named = named
 
 -- The wait of a transaction: where its last reply is Blocked, those that the reply named and that have been running
 -- without a break since. One that was rolled back and runs again isn't waited for any more.
 abbrev pub wait : ℕ → Journal → List ℕ
 wait t [] = []
-wait t (call ∷ before) = filter (λ u. is_running u (call ∷ before)) (next_wait t call (wait t before))
+wait t (call ∷ before) = filter (λ u. is_running u (call ∷ before)) (next_wait t (effect_of call) (wait t before))
 
 -- the Deadlock reply of t that stands after a call, if each of its members runs
-abbrev pub next_standing : ℕ → Call → Option (List ℕ) → Option (List ℕ)
-next_standing t (Ran u stmt (run.Done answer)) cycle = if t == u then None else cycle
-next_standing t (Ran u stmt (run.Blocked named)) cycle = if t == u then None else cycle
-next_standing t (Ran u stmt (run.Deadlock it)) cycle = if t == u then Some it else cycle
-next_standing t (Ran u stmt run.Lost) cycle = None
-next_standing t (Ran u stmt run.NoMemory) cycle = cycle
-next_standing t (Committed u end.Done) cycle = if t == u then None else cycle
-next_standing t (Committed u end.Lost) cycle = None
-next_standing t (RolledBack u end.Done) cycle = if t == u then None else cycle
-next_standing t (RolledBack u end.Lost) cycle = None
-next_standing t (Restarted told) cycle = None
+abbrev pub next_standing : ℕ → Effect → Option (List ℕ) → Option (List ℕ)
+next_standing t (does.Runs u stmt answer) cycle = if t == u then None else cycle
+next_standing t (does.Waits u named) cycle = if t == u then None else cycle
+next_standing t (does.Closes u it) cycle = if t == u then Some it else cycle
+next_standing t (does.Ends u) cycle = if t == u then None else cycle
+next_standing t does.EndsAll cycle = None
+next_standing t does.Nothing cycle = cycle
 
 -- the list, if all its members pass the test
 abbrev pub if_all : (ℕ → Bool) → List ℕ → Option (List ℕ)
@@ -47,7 +39,7 @@ if_all test ts = if list_all test ts then Some ts else None
 -- running without a break since.
 abbrev pub standing : ℕ → Journal → Option (List ℕ)
 standing t [] = None
-standing t (call ∷ before) = option_and_then (if_all (λ u. is_running u (call ∷ before))) (next_standing t call (standing t before))
+standing t (call ∷ before) = option_and_then (if_all (λ u. is_running u (call ∷ before))) (next_standing t (effect_of call) (standing t before))
 
 -- whether each of a path waits for the next, where `waits` gives the wait of each transaction
 abbrev pub is_chain : (ℕ → List ℕ) → List ℕ → Bool

@@ -2,7 +2,7 @@
 use Rattle.std.specs.Prelude.{ℕ, Bool, true, false, Ok, Err, List, [], ◌∷◌, reverse}
 use Rattle.hr_rel.specs.declared.answer.Answer.TheVariants.{Rows, Count}
 use Rattle.hr_rel.specs.declared.stmt.Stmt.{Stmt}
-use Rattle.hr_rel.specs.Worked.{one, insert, select_v}
+use Rattle.hr_meaning.specs.Worked.{one, insert, select_v}
 use Rattle.hr_engine.specs.declared.reply.Lost.{Lost}
 use Rattle.hr_engine.specs.declared.reply.RunReply.TheVariants as run
 use Rattle.hr_engine.specs.declared.reply.EndReply.TheVariants as end

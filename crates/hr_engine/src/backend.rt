@@ -2,7 +2,8 @@ ghost use Rattle.std.specs.Prelude.{◌≡◌, ◌≤◌, ◌||◌, ℕ, Bool, t
 ghost use Rattle.hr_rel.specs.Database.{Database};
 ghost use Rattle.hr_engine.specs.declared.reply.RunReply.TheVariants.{NoMemory};
 ghost use Rattle.hr_engine.specs.Journal.{Journal, Ran, Committed, RolledBack, Restarted};
-ghost use Rattle.hr_engine.specs.Backend.{Extends, Rose, HasCause, AnswersCanonically, IsLegal, is_lost_run, is_lost_end};
+ghost use Rattle.hr_engine.specs.Backend.{Extends, HasLossCause, AnswersCanonically, IsLegal, is_lost_run, is_lost_end};
+ghost use Rattle.hr_base.specs.Counters.{Rose};
 
 use crate::{EndReply, Lost, RunReply, TxnId};
 use hr_rel::{Rows, Stmt};
@@ -38,7 +39,7 @@ pub trait Backend {
         ensures canonical { AnswersCanonically result }
         ensures lost { is_lost self.new ≡ is_lost self.old || is_lost_run result }
         ensures losses { losses self.old ≤ losses self.new }
-        ensures cause { HasCause (is_lost self.old) (losses self.old) (losses self.new) (is_lost_run result) }
+        ensures cause { HasLossCause (is_lost self.old) (losses self.old) (losses self.new) (is_lost_run result) }
 
         // Want of memory changes nothing, in the journal's words too.
         ensures base_at_no_memory { result ≡ NoMemory → base self.new ≡ base self.old }
@@ -50,7 +51,7 @@ pub trait Backend {
         ensures make { make self.new ≡ make self.old }
         ensures lost { is_lost self.new ≡ is_lost self.old || is_lost_end result }
         ensures losses { losses self.old ≤ losses self.new }
-        ensures cause { HasCause (is_lost self.old) (losses self.old) (losses self.new) (is_lost_end result) };
+        ensures cause { HasLossCause (is_lost self.old) (losses self.old) (losses self.new) (is_lost_end result) };
 
     /// Undoes what a transaction has done. Takes no memory.
     fn rollback(&mut self, txn: TxnId) -> EndReply
@@ -58,7 +59,7 @@ pub trait Backend {
         ensures make { make self.new ≡ make self.old }
         ensures lost { is_lost self.new ≡ is_lost self.old || is_lost_end result }
         ensures losses { losses self.old ≤ losses self.new }
-        ensures cause { HasCause (is_lost self.old) (losses self.old) (losses self.new) (is_lost_end result) };
+        ensures cause { HasLossCause (is_lost self.old) (losses self.old) (losses self.new) (is_lost_end result) };
 
     /// Ends a loss: forgets what was running, keeps what was committed, and tells how many commits it has made.
     fn restart(&mut self) -> Result<u64, Lost>

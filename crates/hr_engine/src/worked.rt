@@ -1,7 +1,7 @@
 //! Worked journals. Each function does nothing; what it ensures is computed from the definitions, so a reader can hold
 //! them against journals worked out by hand.
 ghost use Rattle.std.specs.Prelude.{◌≡◌, [], ◌∷◌, true, false, Some, None, Err};
-ghost use Rattle.hr_rel.specs.Worked.{holding, row, select_v};
+ghost use Rattle.hr_meaning.specs.Worked.{holding, row, select_v};
 ghost use Rattle.hr_engine.specs.Attempts.{is_running};
 ghost use Rattle.hr_rel.specs.declared.answer.Answer.TheVariants.{Rows};
 ghost use Rattle.hr_engine.specs.declared.reply.Lost.{Lost};

@@ -1,22 +1,24 @@
--- Why a loss is no lie: where the script has no other acts, what is told is rigorous if the journal within is.
+-- Not to be believed but checked: proofs that a trait's law has to cite. Why a loss is no lie: where the script has no other
+-- acts, what is told is rigorous if the journal within is.
 use Rattle.std.proofs.Common.{◌≡◌, ℕ, ◌+◌, ◌-◌, ◌≤◌, ◌<◌, ◌^◌, Bool, true, false, cond, not, ◌==◌, ◌&&◌, nat_lt, Option, Some, None, Result, Ok, Err, IsTrue, ◌⊎◌, inl, inr, List, [], ◌∷◌, ◌++◌, length, map, refl, ap, subst, ◌∙◌, sym, arith, Contains}
 use Rattle.std.specs.List.{filter, list_all, AllZip}
 use Rattle.std.proofs.lemmas.List.Elements.{filter_agree}
 use Rattle.hr_rel.specs.declared.stmt.Stmt.{Stmt}
 use Rattle.hr_rel.specs.Database.{Database}
-use Rattle.hr_rel.specs.Serial.{serial_answers, database_after}
-use Rattle.hr_rel.specs.SameAnswer.{SameAnswer}
+use Rattle.hr_meaning.specs.Serial.{serial_answers, database_after}
+use Rattle.hr_meaning.specs.SameAnswer.{SameAnswer}
 use Rattle.hr_engine.specs.declared.reply.RunReply.{RunReply}
 use Rattle.hr_engine.specs.declared.reply.RunReply.TheVariants as run
 use Rattle.hr_engine.specs.declared.reply.EndReply.{EndReply}
 use Rattle.hr_engine.specs.declared.reply.EndReply.TheVariants as end
 use Rattle.hr_engine.specs.declared.reply.Lost.{Lost}
 use Rattle.hr_engine.specs.Journal.{Call, Ran, Committed, RolledBack, Restarted, Journal}
-use Rattle.hr_engine.specs.Attempts.{Step, attempt, next_attempt, statements, answers, is_running}
+use Rattle.hr_engine.specs.Effects.{effect_of, settling_of}
+use Rattle.hr_engine.specs.Attempts.{RanStmt, attempt, next_attempt, statements, answers, is_running}
 use Rattle.hr_engine.specs.Waits.{wait, next_wait, IsSoundBlocked, is_sound_deadlock}
 use Rattle.hr_engine.specs.Base.{Settled, settled, next_settled, attempt_at, at_loss, at_restart, with_doubt, base, bases}
 use Rattle.hr_engine.specs.Rigorous.{AnyOrder, IsSound, Rigorous}
-use Rattle.hr_engine.specs.Lists.{is_empty, is_distinct}
+use Rattle.hr_base.specs.Lists.{is_empty, is_distinct}
 use Rattle.hr_engine.proofs.Orders.{none_run}
 use Rattle.hr_engine.proofs.BaseLaws.{no_doubt, count_le}
 use Rattle.std.proofs.lemmas.Bool.{and_parts, or_parts, eqb-true, ltb-true}
@@ -26,7 +28,7 @@ use Rattle.hr_faulty.specs.declared.script.Act.TheVariants as act
 use Rattle.hr_faulty.specs.declared.script.When.{When}
 use Rattle.hr_faulty.specs.declared.script.When.TheVariants.{Before, After}
 use Rattle.hr_faulty.specs.Script.{act_at, is_lie, lies, names_calls}
-use Rattle.hr_faulty.specs.Told.{Tells, Told, next_number}
+use Rattle.hr_faulty.specs.Told.{Tells, Scripted, next_number}
 use Rattle.hr_engine.specs.Backend.{IsLegal}
 use Rattle.hr_faulty.specs.Wraps.{Wraps}
 use Rattle.hr_faulty.specs.Resolves.{MayTell, may_stand, Resolves, resolves_itself, resolves_before, resolves_after}
@@ -53,7 +55,7 @@ Follows inner outer false = Agree inner outer
 Follows inner outer true = IsLossOf inner outer
 
 -- what holds of the attempts and the base alone
-AnyOrderOf : (ℕ → List Step) → Database → Type 0
+AnyOrderOf : (ℕ → List RanStmt) → Database → Type 0
 AnyOrderOf att db = (ts : List ℕ) → IsTrue (is_distinct ts) → IsTrue (list_all (λ t. not (is_empty (att t))) ts)
     → AllZip (AllZip SameAnswer) (serial_answers db (map (λ t. statements (att t)) ts)) (map (λ t. answers (att t)) ts)
 
@@ -61,19 +63,19 @@ module _ (start : Database) (inner outer : Journal) (agree : Agree inner outer) 
   any_order_along : AnyOrder start inner → AnyOrder start outer
   unfolding AnyOrderOf
   any_order_along any =
-      let by_attempts : AnyOrderOf (λ t. attempt t outer) (base start inner) = subst (λ (att : ℕ → List Step). AnyOrderOf att (base start inner)) (λ i t. sym (agree.attempts t) i) any in
+      let by_attempts : AnyOrderOf (λ t. attempt t outer) (base start inner) = subst (λ (att : ℕ → List RanStmt). AnyOrderOf att (base start inner)) (λ i t. sym (agree.attempts t) i) any in
       subst (λ (s : Settled). AnyOrderOf (λ t. attempt t outer) (database_after start s.commits)) (sym agree.settled) by_attempts
 
   blocked_along : (t : ℕ) (named : List ℕ) → IsSoundBlocked (λ u. is_running u inner) (λ u. wait u inner) t named → IsSoundBlocked (λ u. is_running u outer) (λ u. wait u outer) t named
   blocked_along t named sound =
       let running : IsSoundBlocked (λ u. is_running u outer) (λ u. wait u inner) t named =
-      subst (λ (att : ℕ → List Step). IsSoundBlocked (λ u. not (is_empty (att u))) (λ u. wait u inner) t named) (λ i u. sym (agree.attempts u) i) sound in
+      subst (λ (att : ℕ → List RanStmt). IsSoundBlocked (λ u. not (is_empty (att u))) (λ u. wait u inner) t named) (λ i u. sym (agree.attempts u) i) sound in
       subst (λ (waits : ℕ → List ℕ). IsSoundBlocked (λ u. is_running u outer) waits t named) (λ i u. sym (agree.waits u) i) running
 
   deadlock_along : (t : ℕ) (cycle : List ℕ) → IsTrue (is_sound_deadlock (λ u. is_running u inner) (λ u. wait u inner) t cycle) → IsTrue (is_sound_deadlock (λ u. is_running u outer) (λ u. wait u outer) t cycle)
   deadlock_along t cycle sound =
       let running : IsTrue (is_sound_deadlock (λ u. is_running u outer) (λ u. wait u inner) t cycle) =
-      subst (λ (att : ℕ → List Step). IsTrue (is_sound_deadlock (λ u. not (is_empty (att u))) (λ u. wait u inner) t cycle)) (λ i u. sym (agree.attempts u) i) sound in
+      subst (λ (att : ℕ → List RanStmt). IsTrue (is_sound_deadlock (λ u. not (is_empty (att u))) (λ u. wait u inner) t cycle)) (λ i u. sym (agree.attempts u) i) sound in
       subst (λ (waits : ℕ → List ℕ). IsTrue (is_sound_deadlock (λ u. is_running u outer) waits t cycle)) (λ i u. sym (agree.waits u) i) running
 
   sound_along : (call : Call) → IsSound call inner → IsSound call outer
@@ -96,11 +98,11 @@ module _ (start : Database) (inner outer : Journal) (agree : Agree inner outer) 
   -- the same call keeps the agreement
   agree_more : (call : Call) → Agree (call ∷ inner) (call ∷ outer)
   agree_more call = record {
-    attempts = λ t. ap (next_attempt t call) (agree.attempts t);
+    attempts = λ t. ap (next_attempt t (effect_of call)) (agree.attempts t);
     waits = λ t.
-        ap (filter (λ u. is_running u (call ∷ outer))) (ap (next_wait t call) (agree.waits t))
-        ∙ filter_agree (λ u. is_running u (call ∷ outer)) (λ u. is_running u (call ∷ inner)) (λ u. ap (λ (steps : List Step). not (is_empty (next_attempt u call steps))) (agree.attempts u)) (next_wait t call (wait t inner));
-    settled = λ i. next_settled call (statements (attempt_at_along call i)) (agree.settled i);
+        ap (filter (λ u. is_running u (call ∷ outer))) (ap (next_wait t (effect_of call)) (agree.waits t))
+        ∙ filter_agree (λ u. is_running u (call ∷ outer)) (λ u. is_running u (call ∷ inner)) (λ u. ap (λ (steps : List RanStmt). not (is_empty (next_attempt u (effect_of call) steps))) (agree.attempts u)) (next_wait t (effect_of call) (wait t inner));
+    settled = λ i. next_settled (settling_of call) (statements (attempt_at_along call i)) (agree.settled i);
   }
 
 -- a call at which a loss begins silences all
@@ -119,7 +121,7 @@ silent_at_loss (Restarted (Err why)) before found lost = record { attempts = λ 
 
 -- nobody runs in silence
 silent_order : (start : Database) (journal : Journal) → IsSilent journal → AnyOrder start journal
-silent_order start journal silent = none_run start journal (λ t. ap (λ (steps : List Step). not (is_empty steps)) (silent.attempts t))
+silent_order start journal silent = none_run start journal (λ t. ap (λ (steps : List RanStmt). not (is_empty steps)) (silent.attempts t))
 
 -- what holds after each call: the journal is rigorous, and it follows the one within
 pub record IsTold (start : Database) (inner outer : Journal) : Type 0 where
@@ -215,7 +217,7 @@ module _ (start : Database) (inner before : Journal) (rigorous : Rigorous start 
       let inside : Resolves ((settled inner).commits ++ stmts ∷ []) (settled inner).doubt s.commits (Some stmts) =
       subst (λ (r : Settled). Resolves (r.commits ++ stmts ∷ []) r.doubt s.commits (Some stmts)) agree.settled from in
       let made : Resolves ((settled inner).commits ++ statements (attempt t inner) ∷ []) (settled inner).doubt s.commits (Some stmts) =
-      subst (λ (steps : List Step). Resolves ((settled inner).commits ++ statements steps ∷ []) (settled inner).doubt s.commits (Some stmts)) (agree.attempts t) inside in
+      subst (λ (steps : List RanStmt). Resolves ((settled inner).commits ++ statements steps ∷ []) (settled inner).doubt s.commits (Some stmts)) (agree.attempts t) inside in
       loss start (Committed t end.Done ∷ inner) before (Committed t end.Lost) rigorous tt refl (lost_commit_silent t before)
       (subst (λ (o : Option (List Stmt)). Resolves ((settled inner).commits ++ statements (attempt t inner) ∷ []) (settled inner).doubt s.commits o) (sym (begins (Some stmts) s found)) made)
 
@@ -405,7 +407,7 @@ rigorous_before start [] earlier rigorous = rigorous
 rigorous_before start (call ∷ calls) earlier rigorous = rigorous_before start calls earlier rigorous.0
 
 -- What is told by a script without a lie is rigorous, and follows the journal within.
-pub told_honestly : (start : Database) (script : List Fault) → lies script ≡ false → names_calls script ≡ true → (outer inner : Journal) → Told script inner outer → Rigorous start inner → IsTold start inner outer
+pub told_honestly : (start : Database) (script : List Fault) → lies script ≡ false → names_calls script ≡ true → (outer inner : Journal) → Scripted script inner outer → Rigorous start inner → IsTold start inner outer
 told_honestly start script honest named [] inner told rigorous =
     record { rigorous = tt; follows = record { attempts = λ t. ap (attempt t) (sym told); waits = λ t. ap (wait t) (sym told); settled = ap settled (sym told) } }
 told_honestly start script honest named (call ∷ before) inner (earlier, calls, same, told, tells) rigorous =

@@ -1,4 +1,5 @@
--- A make tells the make of the backend within, and the script.
+-- Not to be believed but checked: proofs that a trait's law has to cite. A make tells the make of the backend within, and
+-- the script.
 use Rattle.std.proofs.Common.{◌≡◌, ℕ, pos, negsuc, Bool, ◌==◌, ◌&&◌, not, cond, List, [], ◌∷◌, ◌++◌, length, take, drop, refl, ap, ◌∙◌, sym}
 use Rattle.std.proofs.Math.Seq.{take-append_seam, drop-append_seam}
 use Rattle.hr_faulty.specs.declared.script.Fault.{Fault}

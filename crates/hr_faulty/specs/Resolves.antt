@@ -1,11 +1,13 @@
--- How a restart settles what two journals left open: the commits that count, and the commit in doubt.
+-- Not to be believed but checked: proofs that a trait's law has to cite. How a restart settles what two journals left open:
+-- the commits that count, and the commit in doubt.
 use Rattle.std.proofs.Common.{◌≡◌, ℕ, ◌+◌, ◌-◌, ◌≤◌, ◌^◌, Bool, cond, Option, Some, None, IsSome, ◌⊎◌, inl, inr, List, [], ◌∷◌, ◌++◌, length, get_or, zero, suc, ◌<◌, refl, ap, ◌∙◌, sym, arith, Contains, length-append}
 use Rattle.std.specs.Prelude.{option_to_list, option_map}
 use Rattle.std.proofs.lemmas.Bool.{eq-eqb, ne_eqb}
 use Rattle.hr_rel.specs.declared.stmt.Stmt.{Stmt}
 use Rattle.hr_rel.specs.Database.{Database}
-use Rattle.hr_rel.specs.Serial.{play, database_after}
-use Rattle.hr_engine.specs.Base.{with_doubt, shown}
+use Rattle.hr_meaning.specs.Serial.{play, database_after}
+use Rattle.hr_engine.specs.Base.{with_doubt}
+use Rattle.hr_base.specs.Counters.{shown}
 use Rattle.hr_engine.proofs.SerialLaws.{database_after-append}
 
 -- the counts that a restart may tell

@@ -11,7 +11,8 @@ use Rattle.hr_engine.specs.declared.reply.EndReply.{EndReply}
 use Rattle.hr_engine.specs.declared.reply.EndReply.TheVariants as end
 use Rattle.hr_engine.specs.declared.reply.Lost.{Lost}
 use Rattle.hr_engine.specs.Journal.{Call, Ran, Committed, RolledBack, Restarted, Journal}
-use Rattle.hr_engine.specs.Base.{settled, shown}
+use Rattle.hr_engine.specs.Base.{settled}
+use Rattle.hr_base.specs.Counters.{shown}
 use Rattle.hr_faulty.specs.declared.script.Fault.{Fault}
 use Rattle.hr_faulty.specs.declared.script.Act.{Act}
 use Rattle.hr_faulty.specs.declared.script.Act.TheVariants as act
@@ -91,8 +92,8 @@ abbrev pub next_number : Journal → ℕ
 next_number journal = shown (length journal + 1)
 
 -- A journal is told by a script: its acts make it of the journal of the backend within.
-abbrev pub Told : List Fault → Journal → Journal → Type 0
-Told script within [] = within ≡ []
-Told script within (call ∷ before) =
-    (earlier : Journal) × (calls : List Call) × (within ≡ calls ++ earlier) × Told script earlier before
+abbrev pub Scripted : List Fault → Journal → Journal → Type 0
+Scripted script within [] = within ≡ []
+Scripted script within (call ∷ before) =
+    (earlier : Journal) × (calls : List Call) × (within ≡ calls ++ earlier) × Scripted script earlier before
     × Tells (act_at script (next_number before)) (settled before).lost call calls

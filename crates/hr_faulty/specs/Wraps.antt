@@ -1,12 +1,13 @@
--- What a scripted backend stands for.
+-- Not to be believed: what a scripted backend's own value stands for, which mirrors its code.
 use Rattle.std.specs.Prelude.{◌≡◌, ℕ, Bool, IsTrue, List, ◌++◌, length}
 use Rattle.hr_rel.specs.Database.{Database}
 use Rattle.hr_engine.specs.Journal.{Call, Journal}
-use Rattle.hr_engine.specs.Base.{settled, shown}
+use Rattle.hr_engine.specs.Base.{settled}
+use Rattle.hr_base.specs.Counters.{shown}
 use Rattle.hr_engine.specs.Backend.{Standing}
 use Rattle.hr_faulty.specs.declared.script.Fault.{Fault}
 use Rattle.hr_faulty.specs.Script.{names_calls}
-use Rattle.hr_faulty.specs.Told.{Told}
+use Rattle.hr_faulty.specs.Told.{Scripted}
 
 -- for each journal that a backend stood for, it now stands for that journal with these calls more, the latest first
 abbrev pub ExtendsBy : Standing → Standing → List Call → Type 0
@@ -17,6 +18,6 @@ pub record Wraps (stands : Database → Journal → Type 0) (script : List Fault
   pub named : IsTrue (names_calls script)
   pub within : Journal
   pub stood : stands start within
-  pub told : Told script within journal
+  pub told : Scripted script within journal
   pub counted : calls ≡ shown (length journal)
   pub loses : lost ≡ (settled journal).lost

@@ -1,7 +1,7 @@
 ghost use Rattle.std.specs.Prelude.{◌≡◌, ◌+◌, ◌≤◌, ◌&&◌, ◌||◌, if◌then◌else◌, not, true, false, [], List, IfOk, IsTrue, Some, option_copied};
 ghost use Rattle.hr_rel.specs.Database.{Database};
 ghost use Rattle.hr_engine.specs.declared.reply.RunReply.TheVariants as reply;
-ghost use Rattle.hr_engine.specs.Base.{shown};
+ghost use Rattle.hr_base.specs.Counters.{shown};
 ghost use Rattle.hr_engine.specs.Journal.{Call, Committed, RolledBack};
 ghost use Rattle.hr_engine.specs.Backend.{AnswersCanonically, is_lost_run, is_lost_end};
 ghost use Rattle.hr_faulty.specs.Script.{lies, names_calls};

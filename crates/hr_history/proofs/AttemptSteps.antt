@@ -3,9 +3,10 @@ use Rattle.std.proofs.Common.{◌≡◌, ℕ, ◌+◌, ◌*◌, ◌<◌, Bool, t
 use Rattle.std.specs.Map.{lookup}
 use Rattle.std.proofs.lemmas.Bool.Decides.{Decides-eqb}
 use Rattle.hr_engine.specs.Journal.{Call, Ran, Journal}
-use Rattle.hr_engine.specs.Attempts.{Step, attempt, next_attempt, answers, is_running}
+use Rattle.hr_engine.specs.Attempts.{RanStmt, attempt, next_attempt, answers, is_running}
+use Rattle.hr_engine.specs.Effects.{effect_of}
 use Rattle.hr_engine.specs.Waits.{wait, next_wait, standing, next_standing, if_all}
-use Rattle.hr_engine.specs.Lists.{has, is_empty, once}
+use Rattle.hr_base.specs.Lists.{has, is_empty, once}
 use Rattle.hr_engine.specs.declared.reply.RunReply.TheVariants as run
 use Rattle.hr_history.specs.declared.entry.Event.{Event}
 use Rattle.hr_history.specs.declared.entry.Event.TheVariants as event
@@ -18,13 +19,13 @@ use Rattle.hr_history.specs.declared.phase.Last.TheVariants as last
 use Rattle.hr_history.specs.declared.phase.Fresh.{Fresh}
 use Rattle.hr_history.specs.History.{History}
 use Rattle.hr_history.specs.Replicas.{out_at, journal_of, next_journal, call_at, call_of, call_if, stmt_at}
-use Rattle.hr_history.specs.Attempts.{is_touched, is_preempted, places_told, next_places, next_preempted, dispatched, still_told, as_told, or_still, last_told}
+use Rattle.hr_history.specs.Attempts.{is_touched, is_preempted, places_told, next_places, next_preempted, dispatched, still_told, told_by, as_told, or_still, last_told}
 use Rattle.hr_history.specs.Turn.{fresh_of, next_fresh}
 use Rattle.hr_history.specs.View.{Attempt, view_of, attempt_state, is_fresh}
 use Rattle.hr_history.specs.Processed.{attempt_in, no_attempt, named_in, cycle_in}
 use Rattle.hr_history.specs.Step.{next_answers, answers_after, touched_after, wait_left, standing_left, runs_after, last_if, last_after, fresh_after, attempt_after}
 use Rattle.hr_history.proofs.StepLemmas.{replica_lookup}
-use Rattle.hr_history.proofs.Tests.{eq_turn}
+use Rattle.hr_base.proofs.Tests.{eq_turn}
 use Rattle.hr_history.proofs.Quiet.{quiet, places_none, preempted_none, fresh_none}
 use Rattle.hr_history.proofs.WaitLaws.{wait_of_last, standing_of_last}
 use Rattle.hr_history.proofs.CallWords.{Words, bare, bare_words, call_same, answers_step, answers_same, touched_same, places_same, preempted_same}
@@ -68,7 +69,7 @@ attempt_lookup f r t h lt =
     ∙ ap (λ o. unwrap_or o no_attempt) (lookup_mapped (λ u. attempt_state r (journal_of r h) h u) t (dispatched r h))
     ∙ by_dispatched (has (dispatched r h) t) r t h refl
 
-empty_answers : (steps : List Step) → is_empty (answers steps) ≡ is_empty steps
+empty_answers : (steps : List RanStmt) → is_empty (answers steps) ≡ is_empty steps
 empty_answers [] = refl
 empty_answers (s ∷ steps) = refl
 
@@ -92,26 +93,18 @@ module _ (f r : ℕ) (h : History) (lt : r < 2 * f + 1) where
   runs_after_same : (c : Call) (u : ℕ) → runs_after (view_of f h) r (bare c) u ≡ is_running u (c ∷ journal_of r h)
   runs_after_same c u =
       ap (λ (w : Words). not (is_empty (w.answers u (attempt_in (view_of f h) r u).answers))) (bare_words c)
-      ∙ ap (λ (a : Attempt). not (is_empty (next_answers u c a.answers))) (attempt_lookup f r u h lt)
-      ∙ ap (λ xs. not (is_empty xs)) (sym (answers_step u c (attempt u (journal_of r h))))
-      ∙ ap not (empty_answers (next_attempt u c (attempt u (journal_of r h))))
+      ∙ ap (λ (a : Attempt). not (is_empty (next_answers u (effect_of c) a.answers))) (attempt_lookup f r u h lt)
+      ∙ ap (λ xs. not (is_empty xs)) (sym (answers_step u (effect_of c) (attempt u (journal_of r h))))
+      ∙ ap not (empty_answers (next_attempt u (effect_of c) (attempt u (journal_of r h))))
 
   -- after a call
   still_same : (c : Call) (t : ℕ)
-      → still_told (filter (runs_after (view_of f h) r (bare c)) (next_wait t (bare c) (wait_left (view_of f h) r t)))
-      (option_and_then (if_all (runs_after (view_of f h) r (bare c))) (next_standing t (bare c) (standing_left (view_of f h) r t)))
+      → still_told (filter (runs_after (view_of f h) r (bare c)) (next_wait t (effect_of (bare c)) (wait_left (view_of f h) r t)))
+      (option_and_then (if_all (runs_after (view_of f h) r (bare c))) (next_standing t (effect_of (bare c)) (standing_left (view_of f h) r t)))
       ≡ still_told (wait t (c ∷ journal_of r h)) (standing t (c ∷ journal_of r h))
   still_same c t =
       let w = bare_words c in
       λ i. still_told (filter (λ u. runs_after_same c u i) ((w i).wait t (wait_same t i))) (option_and_then (if_all (λ u. runs_after_same c u i)) ((w i).standing t (standing_same t i)))
-
-head_told : (t : ℕ) (c : Call) (j : Journal) → as_told t (c ∷ j) ≡ as_told t (c ∷ [])
-head_told t (Ran u s (run.Done a)) j = refl
-head_told t (Ran u s (run.Blocked named)) j = refl
-head_told t (Ran u s (run.Deadlock cycle)) j = refl
-head_told t (Ran u s run.Lost) j = refl
-head_told t (Ran u s run.NoMemory) j = refl
-head_told t _ j = refl
 
 last_by : (b : Bool) (o : Option Last) (t : ℕ) (j : Journal) → as_told t j ≡ o → last_told b t j ≡ last_if b o (still_told (wait t j) (standing t j))
 last_by true None t j e = ap (λ p. or_still p t j) e
@@ -153,7 +146,7 @@ module _ (f r : ℕ) (e : Event) (h : History) (lt : r < 2 * f + 1) (fresh_too :
       ∙ ap (λ o. if is_fresh o r t then (attempt_in (view_of f h) r t).last else still_told (wait_left (view_of f h) r t) (standing_left (view_of f h) r t)) fresh_too
   last_step t (Some c) some =
       let fresh = is_fresh (next_fresh e (λ q. out_at q h) (fresh_of h)) r t in
-      last_by fresh (as_told t (c ∷ [])) t (c ∷ journal_of r h) (head_told t c (journal_of r h))
+      last_by fresh (told_by t (effect_of c)) t (c ∷ journal_of r h) refl
       ∙ (λ i. last_if (is_fresh (fresh_too i) r t) (sym (ap (λ (w : Words). w.told t) (bare_words c)) i) (sym (still_same f r h lt c t) i))
 
   -- a transaction at the replica, one entry later

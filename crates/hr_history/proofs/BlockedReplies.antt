@@ -2,12 +2,12 @@
 use Rattle.std.proofs.Common.{◌≡◌, ℕ, false, ◌==◌, nat_eq, cond, Some, None, unwrap_or, List, [], ◌∷◌, length, map, IsTrue, ◌↔◌, ap, ◌∙◌, refl, le_of_eq}
 use Rattle.std.specs.Map.{lookup}
 use Rattle.std.proofs.lemmas.List.{length-map}
-use Rattle.hr_engine.specs.Lists.{has}
+use Rattle.hr_base.specs.Lists.{has}
 use Rattle.hr_engine.specs.Waits.{IsSoundBlocked}
 use Rattle.hr_history.specs.View.{View, Attempt}
 use Rattle.hr_history.specs.Processed.{replica_in, runs_in, wait_in, no_attempt, named_in}
 use Rattle.hr_history.specs.Evidence.{is_sound_blocked}
-use Rattle.hr_history.proofs.Tests.{eq_turn, or_false}
+use Rattle.hr_base.proofs.Tests.{eq_turn, or_false}
 use Rattle.hr_history.proofs.Chains.{sound_passes}
 use Rattle.hr_history.proofs.Closure.{passes_sound}
 

@@ -1,10 +1,14 @@
 -- What a call makes of a transaction and of a replica doesn't depend on which statement was run.
 use Rattle.std.proofs.Common.{◌≡◌, ℕ, ◌+◌, ◌*◌, ◌<◌, Bool, true, false, not, ◌&&◌, ◌==◌, if◌then◌else◌, Option, Some, None, Ok, Err, is_some, option_map, List, [], ◌∷◌, ◌++◌, length, refl, ap, sym, ◌∙◌}
 use Rattle.std.proofs.lemmas.List.{length-append, map-append}
+use Rattle.hr_base.specs.Lists.{when}
+use Rattle.hr_base.specs.Counters.{shown}
 use Rattle.hr_rel.specs.declared.stmt.Stmt.{Stmt}
 use Rattle.hr_rel.specs.declared.answer.Answer.{Answer}
 use Rattle.hr_engine.specs.Journal.{Call, Ran, Committed, RolledBack, Restarted, Journal}
-use Rattle.hr_engine.specs.Attempts.{Step, attempt, next_attempt, answers, statements}
+use Rattle.hr_engine.specs.Effects.{Effect, effect_of, next_items, Settling, settling_of}
+use Rattle.hr_engine.specs.Effects as does
+use Rattle.hr_engine.specs.Attempts.{RanStmt, attempt, next_attempt, answers, statements}
 use Rattle.hr_engine.specs.Base as base
 use Rattle.hr_engine.specs.Waits.{next_wait, next_standing}
 use Rattle.hr_engine.specs.declared.reply.RunReply.TheVariants as run
@@ -18,9 +22,9 @@ use Rattle.hr_history.specs.declared.job.JobReply.TheVariants as reply
 use Rattle.hr_history.specs.declared.phase.Last.{Last}
 use Rattle.hr_history.specs.History.{History}
 use Rattle.hr_history.specs.Replicas.{any_stmt, call_of, call_if, restart_of, restart_if, call_at, stmt_at, next_journal, out_at}
-use Rattle.hr_history.specs.Attempts.{is_touched, next_touched, ends_attempt, adds_answer, next_places, next_preempted, unless_ended, as_told}
+use Rattle.hr_history.specs.Attempts.{is_touched, next_touched, ends_attempt, next_places, next_preempted, unless_ended, told_by}
 use Rattle.hr_history.specs.View.{view_of}
-use Rattle.hr_history.specs.Step.{Settled, next_answers, answers_after, touched_after, next_settled, settled_after, at_loss, call_in, out_in}
+use Rattle.hr_history.specs.Step.{Commits, next_answers, answers_after, touched_after, next_commits, commits_after, call_in, out_in}
 use Rattle.hr_history.proofs.TxnSteps.{out_same}
 
 abbrev pub bare : Call → Call
@@ -32,24 +36,24 @@ bare (Restarted told) = Restarted told
 -- the words of a call
 pub record Words : Type 0 where
   pub answers : ℕ → List Answer → List Answer
+  pub places : ℕ → ℕ → List ℕ → List ℕ
   pub touched : ℕ → Bool → Bool
   pub ends : ℕ → Bool
-  pub adds : ℕ → Bool
   pub wait : ℕ → List ℕ → List ℕ
   pub standing : ℕ → Option (List ℕ) → Option (List ℕ)
   pub told : ℕ → Option Last
-  pub settled : Settled → Settled
+  pub commits : Commits → Commits
 
 abbrev pub words : Call → Words
 words c = record {
-  answers = λ t xs. next_answers t c xs;
-  touched = λ t b. next_touched t c b;
-  ends = λ t. ends_attempt t c;
-  adds = λ t. adds_answer t c;
-  wait = λ t w. next_wait t c w;
-  standing = λ t s. next_standing t c s;
-  told = λ t. as_told t (c ∷ []);
-  settled = λ s. next_settled c s;
+  answers = λ t xs. next_answers t (effect_of c) xs;
+  places = λ t place xs. next_items t (λ stmt answer. place) (effect_of c) xs;
+  touched = λ t b. next_touched t (effect_of c) b;
+  ends = λ t. ends_attempt t (effect_of c);
+  wait = λ t w. next_wait t (effect_of c) w;
+  standing = λ t s. next_standing t (effect_of c) s;
+  told = λ t. told_by t (effect_of c);
+  commits = λ s. next_commits (settling_of c) s;
 }
 
 pub bare_words : (c : Call) → words (bare c) ≡ words c
@@ -93,29 +97,25 @@ pub call_same : (f r : ℕ) (e : Event) (h : History) → r < 2 * f + 1 → call
 call_same f r e h lt = call_by f r e h (out_same f r h lt)
 
 -- the answers of the attempt
-answers_more : (b : Bool) (s : Step) (steps : List Step) → answers (if b then steps ++ s ∷ [] else steps) ≡ (if b then answers steps ++ s.answer ∷ [] else answers steps)
+answers_more : (b : Bool) (s : RanStmt) (steps : List RanStmt) → answers (if b then steps ++ s ∷ [] else steps) ≡ (if b then answers steps ++ s.answer ∷ [] else answers steps)
 answers_more true s steps = map-append _ steps (s ∷ [])
 answers_more false s steps = refl
 
-answers_none : (b : Bool) (steps : List Step) → answers (if b then [] else steps) ≡ (if b then [] else answers steps)
+answers_none : (b : Bool) (steps : List RanStmt) → answers (if b then [] else steps) ≡ (if b then [] else answers steps)
 answers_none true steps = refl
 answers_none false steps = refl
 
-pub answers_step : (t : ℕ) (c : Call) (steps : List Step) → answers (next_attempt t c steps) ≡ next_answers t c (answers steps)
-answers_step t (Ran u s (run.Done a)) steps = answers_more (t == u) record { stmt = s; answer = a } steps
-answers_step t (Ran u s (run.Blocked named)) steps = refl
-answers_step t (Ran u s (run.Deadlock cycle)) steps = refl
-answers_step t (Ran u s run.Lost) steps = refl
-answers_step t (Ran u s run.NoMemory) steps = refl
-answers_step t (Committed u end.Done) steps = answers_none (t == u) steps
-answers_step t (Committed u end.Lost) steps = refl
-answers_step t (RolledBack u end.Done) steps = answers_none (t == u) steps
-answers_step t (RolledBack u end.Lost) steps = refl
-answers_step t (Restarted told) steps = refl
+pub answers_step : (t : ℕ) (effect : Effect) (steps : List RanStmt) → answers (next_attempt t effect steps) ≡ next_answers t effect (answers steps)
+answers_step t (does.Runs u s a) steps = answers_more (t == u) record { stmt = s; answer = a } steps
+answers_step t (does.Waits u named) steps = refl
+answers_step t (does.Closes u cycle) steps = refl
+answers_step t (does.Ends u) steps = answers_none (t == u) steps
+answers_step t does.EndsAll steps = refl
+answers_step t does.Nothing steps = refl
 
 pub answers_same : (t : ℕ) (c : Option Call) (j : Journal) → answers (attempt t (next_journal c j)) ≡ answers_after t (option_map bare c) (answers (attempt t j))
 answers_same t None j = refl
-answers_same t (Some c) j = answers_step t c (attempt t j) ∙ sym (ap (λ (w : Words). w.answers t (answers (attempt t j))) (bare_words c))
+answers_same t (Some c) j = answers_step t (effect_of c) (attempt t j) ∙ sym (ap (λ (w : Words). w.answers t (answers (attempt t j))) (bare_words c))
 
 pub touched_same : (t : ℕ) (c : Option Call) (j : Journal) → is_touched t (next_journal c j) ≡ touched_after t (option_map bare c) (is_touched t j)
 touched_same t None j = refl
@@ -123,7 +123,7 @@ touched_same t (Some c) j = sym (ap (λ (w : Words). w.touched t (is_touched t j
 
 pub places_same : (t : ℕ) (c : Option Call) (place : ℕ) (places : List ℕ) → next_places t c place places ≡ next_places t (option_map bare c) place places
 places_same t None place places = refl
-places_same t (Some c) place places = sym (ap (λ (w : Words). if w.ends t then [] else if w.adds t then places ++ place ∷ [] else places) (bare_words c))
+places_same t (Some c) place places = sym (ap (λ (w : Words). w.places t place places) (bare_words c))
 
 unless_same : (t : ℕ) (c : Option Call) (was : Bool) → unless_ended t c was ≡ unless_ended t (option_map bare c) was
 unless_same t None was = refl
@@ -134,39 +134,34 @@ preempted_same r t (event.Preempt q u) c touched was = refl
 preempted_same r t _ c touched was = unless_same t c was
 
 -- what is settled
-abbrev pub seen_settled : base.Settled → Settled
-seen_settled s = record { lost = s.lost; position = length s.commits; doubt = is_some s.doubt }
+abbrev pub seen_commits : base.Settled → Commits
+seen_commits s = record { lost = s.lost; position = length s.commits; doubt = is_some s.doubt }
 
 some_if : (b : Bool) (x y : Option (List Stmt)) → is_some (if b then x else y) ≡ (if b then is_some x else is_some y)
 some_if true x y = refl
 some_if false x y = refl
 
-loss_same : (doubt : Option (List Stmt)) (s : base.Settled) → seen_settled (base.at_loss doubt s) ≡ at_loss (is_some doubt) (seen_settled s)
-loss_same doubt s = λ i. record { lost = true; position = length s.commits; doubt = some_if s.lost s.doubt doubt i }
+some_when : (b : Bool) (stmts : List Stmt) → is_some (when b stmts) ≡ b
+some_when true stmts = refl
+some_when false stmts = refl
 
 more_if : (b : Bool) (xs : List Stmt) (commits : List (List Stmt)) → length (if b then commits ++ xs ∷ [] else commits) ≡ (if b then length commits + 1 else length commits)
 more_if true xs commits = length-append commits (xs ∷ [])
 more_if false xs commits = refl
 
 doubt_counts : (told : ℕ) (doubt : Option (List Stmt)) (commits : List (List Stmt))
-    → length (base.with_doubt told doubt commits) ≡ (if is_some doubt && (told == base.shown (length commits + 1)) then length commits + 1 else length commits)
+    → length (base.with_doubt told doubt commits) ≡ (if is_some doubt && (told == shown (length commits + 1)) then length commits + 1 else length commits)
 doubt_counts told None commits = refl
-doubt_counts told (Some xs) commits = more_if (told == base.shown (length commits + 1)) xs commits
+doubt_counts told (Some xs) commits = more_if (told == shown (length commits + 1)) xs commits
 
-settled_step : (c : Call) (stmts : List Stmt) (s : base.Settled) → seen_settled (base.next_settled c stmts s) ≡ next_settled c (seen_settled s)
-settled_step (Ran t x (run.Done a)) stmts s = refl
-settled_step (Ran t x (run.Blocked named)) stmts s = refl
-settled_step (Ran t x (run.Deadlock cycle)) stmts s = refl
-settled_step (Ran t x run.Lost) stmts s = loss_same None s
-settled_step (Ran t x run.NoMemory) stmts s = refl
-settled_step (Committed t end.Done) stmts s = λ i. record { lost = s.lost; position = length-append s.commits (stmts ∷ []) i; doubt = is_some s.doubt }
-settled_step (Committed t end.Lost) stmts s = loss_same (Some stmts) s
-settled_step (RolledBack t end.Done) stmts s = refl
-settled_step (RolledBack t end.Lost) stmts s = loss_same None s
-settled_step (Restarted (Ok told)) stmts s = λ i. record { lost = false; position = doubt_counts told s.doubt s.commits i; doubt = false }
-settled_step (Restarted (Err lost)) stmts s = loss_same None s
+commits_step : (settling : Settling) (stmts : List Stmt) (s : base.Settled) → seen_commits (base.next_settled settling stmts s) ≡ next_commits settling (seen_commits s)
+commits_step does.Counts stmts s = λ i. record { lost = s.lost; position = length-append s.commits (stmts ∷ []) i; doubt = is_some s.doubt }
+commits_step (does.Loses at_commit) stmts s =
+    λ i. record { lost = true; position = length s.commits; doubt = (some_if s.lost s.doubt (when at_commit stmts) ∙ ap (λ b. if s.lost then is_some s.doubt else b) (some_when at_commit stmts)) i }
+commits_step (does.Tells told) stmts s = λ i. record { lost = false; position = doubt_counts told s.doubt s.commits i; doubt = false }
+commits_step does.Keeps stmts s = refl
 
-pub settled_same : (c : Option Call) (j : Journal) → seen_settled (base.settled (next_journal c j)) ≡ settled_after (option_map bare c) (seen_settled (base.settled j))
-settled_same None j = refl
-settled_same (Some c) j =
-    settled_step c (statements (base.attempt_at c j)) (base.settled j) ∙ sym (ap (λ (w : Words). w.settled (seen_settled (base.settled j))) (bare_words c))
+pub commits_same : (c : Option Call) (j : Journal) → seen_commits (base.settled (next_journal c j)) ≡ commits_after (option_map bare c) (seen_commits (base.settled j))
+commits_same None j = refl
+commits_same (Some c) j =
+    commits_step (settling_of c) (statements (base.attempt_at c j)) (base.settled j) ∙ sym (ap (λ (w : Words). w.commits (seen_commits (base.settled j))) (bare_words c))

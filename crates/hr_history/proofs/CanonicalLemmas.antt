@@ -8,7 +8,7 @@ use Rattle.std.proofs.lemmas.Bool.{and_parts, and_from}
 use Rattle.hr_rel.specs.declared.value.Value.{Value}
 use Rattle.hr_rel.specs.declared.answer.Answer.{Answer}
 use Rattle.hr_rel.specs.declared.answer.Answer.TheVariants.{Rows, Count, Failed}
-use Rattle.hr_rel.specs.SameAnswer.{SameAnswer}
+use Rattle.hr_meaning.specs.SameAnswer.{SameAnswer}
 use Rattle.hr_answer.specs.Canonical.{row_cmp, IsCanonical}
 use Rattle.hr_answer.proofs.ValueOrder.{row_total, same_rows}
 use Rattle.hr_history.specs.SameAnswers.{same_answer, are_sorted, is_canonical}

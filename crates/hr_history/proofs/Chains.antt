@@ -2,36 +2,11 @@
 use Rattle.std.proofs.Common.{◌≡◌, ℕ, zero, suc, Bool, true, false, not, ◌&&◌, ◌||◌, ◌==◌, cond, List, [], ◌∷◌, ◌++◌, filter, flat_map, ◌⊎◌, inl, inr, ⊎_elim, IsTrue, refl, sym, ◌∙◌}
 use Rattle.std.proofs.lemmas.Bool.Decides.{Decides-eqb}
 use Rattle.std.proofs.lemmas.List.Folds.{list_any-append}
-use Rattle.hr_engine.specs.Lists.{has, once, is_empty, is_ascending}
+use Rattle.hr_base.specs.Lists.{has, once, is_empty, is_ascending}
+use Rattle.hr_base.proofs.Tests.{or_split, or_first, or_second, in_once}
 use Rattle.hr_engine.specs.Waits.{Leads, is_list_of_running, IsSoundBlocked}
 use Rattle.hr_history.specs.Evidence.{reached, is_sound_blocked}
 use Rattle.hr_history.proofs.StepLemmas.{both}
-
-pub or_split : (a b : Bool) → (a || b) ≡ true → (a ≡ true) ⊎ (b ≡ true)
-or_split true b h = inl refl
-or_split false b h = inr h
-
-pub or_second : (a b : Bool) → b ≡ true → (a || b) ≡ true
-or_second true b h = refl
-or_second false b h = h
-
-pub or_first : (a b : Bool) → a ≡ true → (a || b) ≡ true
-or_first true b h = refl
-or_first false b h = cc
-
--- a part of a list has what the list has
-part_of_head : (b : Bool) (x u : ℕ) (xs ys : List ℕ) → (has ys u ≡ true → has xs u ≡ true) → has (cond b (x ∷ ys) ys) u ≡ true → ((x == u) || has xs u) ≡ true
-part_of_head true x u xs ys more h =
-    ⊎_elim (λ (e : (x == u) ≡ true). or_first (x == u) (has xs u) e) (λ (e : has ys u ≡ true). or_second (x == u) (has xs u) (more e)) (or_split (x == u) (has ys u) h)
-part_of_head false x u xs ys more h = or_second (x == u) (has xs u) (more h)
-
-in_filter : (p : ℕ → Bool) (xs : List ℕ) (u : ℕ) → has (filter p xs) u ≡ true → has xs u ≡ true
-in_filter p [] u h = h
-in_filter p (x ∷ xs) u h = part_of_head (p x) x u xs (filter p xs) (λ e. in_filter p xs u e) h
-
-in_once : (xs : List ℕ) (u : ℕ) → has (once xs) u ≡ true → has xs u ≡ true
-in_once [] u h = h
-in_once (x ∷ xs) u h = part_of_head true x u xs (filter (λ v. not (v == x)) (once xs)) (λ e. in_once xs u (in_filter (λ v. not (v == x)) (once xs) u e)) h
 
 module _ (waits : ℕ → List ℕ) where
   -- one of the list waits for u

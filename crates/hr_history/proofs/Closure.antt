@@ -2,37 +2,12 @@
 use Rattle.std.proofs.Common.{◌≡◌, ℕ, zero, suc, ◌<◌, ◌≤◌, Bool, true, false, not, ◌||◌, ◌==◌, cond, List, [], ◌∷◌, ◌++◌, filter, flat_map, length, ◌⊎◌, inl, inr, ⊎_elim, IsTrue, refl, ap, sym, ◌∙◌, arith}
 use Rattle.std.proofs.lemmas.Bool.Decides.{Decides-eqb}
 use Rattle.std.proofs.lemmas.List.Folds.{list_any-append}
-use Rattle.hr_engine.specs.Lists.{has, once}
+use Rattle.hr_base.specs.Lists.{has, once}
 use Rattle.hr_engine.specs.Waits.{is_chain, Leads, is_list_of_running, IsSoundBlocked}
 use Rattle.hr_history.specs.Evidence.{reached, is_sound_blocked}
 use Rattle.hr_history.proofs.StepLemmas.{both}
-use Rattle.hr_history.proofs.Chains.{Waiter, in_next, or_split, or_first, or_second}
-
--- what is in a list stays in it once, and where it passes the test
-kept_head : (b : Bool) (p : ℕ → Bool) (x u : ℕ) (xs : List ℕ) → p x ≡ b → p u ≡ true → (has xs u ≡ true → has (filter p xs) u ≡ true) → ((x == u) || has xs u) ≡ true → has (cond b (x ∷ filter p xs) (filter p xs)) u ≡ true
-kept_head true p x u xs e passes more h =
-    ⊎_elim (λ (d : (x == u) ≡ true). or_first (x == u) (has (filter p xs) u) d) (λ (d : has xs u ≡ true). or_second (x == u) (has (filter p xs) u) (more d)) (or_split (x == u) (has xs u) h)
-kept_head false p x u xs e passes more h =
-    ⊎_elim (λ (d : (x == u) ≡ true). absurd (no_both (sym (ap p ((Decides-eqb x u).0 d) ∙ passes) ∙ e))) (λ (d : has xs u ≡ true). more d) (or_split (x == u) (has xs u) h)
-  where
-    no_both : true ≡ false → ⊥
-    no_both q = cc q
-
-kept : (p : ℕ → Bool) (u : ℕ) (xs : List ℕ) → p u ≡ true → has xs u ≡ true → has (filter p xs) u ≡ true
-kept p u [] passes h = h
-kept p u (x ∷ xs) passes h = kept_head (p x) p x u xs refl passes (λ d. kept p u xs passes d) h
-
-once_head : (b : Bool) (x u : ℕ) (xs : List ℕ) → (x == u) ≡ b → (has xs u ≡ true → has (once xs) u ≡ true) → (b || has xs u) ≡ true → (b || has (filter (λ v. not (v == x)) (once xs)) u) ≡ true
-once_head true x u xs e more h = refl
-once_head false x u xs e more h = kept (λ v. not (v == x)) u (once xs) (turned (u == x) refl) (more h)
-  where
-    turned : (c : Bool) → (u == x) ≡ c → not (u == x) ≡ true
-    turned true d = cc (sym ((Decides-eqb x u).1 (sym ((Decides-eqb u x).0 d))) ∙ e)
-    turned false d = ap not d
-
-kept_once : (xs : List ℕ) (u : ℕ) → has xs u ≡ true → has (once xs) u ≡ true
-kept_once [] u h = h
-kept_once (x ∷ xs) u h = once_head (x == u) x u xs refl (λ d. kept_once xs u d) h
+use Rattle.hr_base.proofs.Tests.{or_split, or_first, or_second, kept_once}
+use Rattle.hr_history.proofs.Chains.{Waiter, in_next}
 
 -- how many of a list fail a test
 abbrev missing : (ℕ → Bool) → List ℕ → ℕ

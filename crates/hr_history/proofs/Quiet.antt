@@ -3,9 +3,10 @@ use Rattle.std.proofs.Common.{◌≡◌, ℕ, Bool, true, false, not, ◌&&◌, 
 use Rattle.std.proofs.lemmas.Bool.Decides.{Decides-eqb}
 use Rattle.hr_rel.specs.declared.stmt.Stmt.{Stmt}
 use Rattle.hr_engine.specs.Journal.{Call, Ran, Committed, RolledBack, Restarted, Journal}
+use Rattle.hr_engine.specs.Effects.{effect_of}
 use Rattle.hr_engine.specs.Attempts.{attempt, is_running}
 use Rattle.hr_engine.specs.Waits.{wait, standing, if_all}
-use Rattle.hr_engine.specs.Lists.{has}
+use Rattle.hr_base.specs.Lists.{has}
 use Rattle.hr_engine.specs.declared.reply.RunReply.TheVariants as run
 use Rattle.hr_engine.specs.declared.reply.EndReply.TheVariants as end
 use Rattle.hr_history.specs.declared.entry.Event.{Event}
@@ -17,10 +18,10 @@ use Rattle.hr_history.specs.declared.job.JobReply.TheVariants as reply
 use Rattle.hr_history.specs.declared.phase.Fresh.{Fresh}
 use Rattle.hr_history.specs.History.{History}
 use Rattle.hr_history.specs.Replicas.{out_at, next_out, call_of, call_if, restart_of, restart_if, call_at, stmt_at, next_journal, journal_of}
-use Rattle.hr_history.specs.Attempts.{is_touched, is_preempted, next_preempted, unless_ended, ends_attempt, adds_answer, places_told, next_places, dispatched, next_dispatched, and_dispatched}
+use Rattle.hr_history.specs.Attempts.{is_touched, is_preempted, next_preempted, unless_ended, ends_attempt, places_told, next_places, dispatched, next_dispatched, and_dispatched}
 use Rattle.hr_history.specs.Turn.{fresh_of, next_fresh, fresh_from}
 use Rattle.hr_history.specs.View.{is_fresh}
-use Rattle.hr_history.proofs.Tests.{eq_turn, if_false, if_same, or_false, and_false, has_end}
+use Rattle.hr_base.proofs.Tests.{eq_turn, if_false, if_same, or_false, and_false, has_end}
 
 -- whether the job is to run a statement of t
 abbrev pub runs_of : ℕ → Option Job → Bool
@@ -162,17 +163,21 @@ quiet r t (e ∷ before) h =
     quiet_more t (call_at r e.event before) (journal_of r before) (asks_none r t e.event before (none_out r t before earlier)) (quiet r t before earlier)
 
 -- no place either
-adds_none : (t : ℕ) (c : Call) → asks t (Some c) ≡ false → adds_answer t c ≡ false
-adds_none t (Ran u s (run.Done a)) other = other
-adds_none t (Ran u s (run.Blocked named)) other = refl
-adds_none t (Ran u s (run.Deadlock cycle)) other = refl
-adds_none t (Ran u s run.Lost) other = refl
-adds_none t (Ran u s run.NoMemory) other = refl
-adds_none t _ other = refl
+places_by : (t : ℕ) (c : Call) (place : ℕ) (places : List ℕ) → asks t (Some c) ≡ false → places ≡ [] → next_places t (Some c) place places ≡ []
+places_by t (Ran u s (run.Done a)) place places other e = if_false (t == u) (places ++ place ∷ []) places other ∙ e
+places_by t (Ran u s (run.Blocked named)) place places other e = e
+places_by t (Ran u s (run.Deadlock cycle)) place places other e = e
+places_by t (Ran u s run.Lost) place places other e = refl
+places_by t (Ran u s run.NoMemory) place places other e = e
+places_by t (Committed u end.Done) place places other e = if_same (t == u) [] places e
+places_by t (Committed u end.Lost) place places other e = refl
+places_by t (RolledBack u end.Done) place places other e = if_same (t == u) [] places e
+places_by t (RolledBack u end.Lost) place places other e = refl
+places_by t (Restarted told) place places other e = refl
 
 places_step : (t : ℕ) (c : Option Call) (place : ℕ) (places : List ℕ) → asks t c ≡ false → places ≡ [] → next_places t c place places ≡ []
 places_step t None place places other e = e
-places_step t (Some c) place places other e = if_same (ends_attempt t c) [] _ (if_false (adds_answer t c) (places ++ place ∷ []) places (adds_none t c other) ∙ e)
+places_step t (Some c) place places other e = places_by t c place places other e
 
 pub places_none : (r t : ℕ) (h : History) → has (dispatched r h) t ≡ false → places_told r t h ≡ []
 places_none r t [] h = refl
@@ -183,7 +188,7 @@ places_none r t (e ∷ before) h =
 -- nor was it preempted
 unless_none : (t : ℕ) (c : Option Call) (was : Bool) → was ≡ false → unless_ended t c was ≡ false
 unless_none t None was e = e
-unless_none t (Some c) was e = and_false (not (ends_attempt t c)) was e
+unless_none t (Some c) was e = and_false (not (ends_attempt t (effect_of c))) was e
 
 or_none : (a b : Bool) → a ≡ false → b ≡ false → (a || b) ≡ false
 or_none true b e d = cc

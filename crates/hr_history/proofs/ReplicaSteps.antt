@@ -3,7 +3,7 @@ use Rattle.std.proofs.Common.{◌≡◌, ℕ, zero, suc, ◌+◌, ◌*◌, ◌<�
 use Rattle.std.specs.Prelude.{find}
 use Rattle.std.specs.List.{range_with_len}
 use Rattle.hr_history.specs.History.{History}
-use Rattle.hr_history.specs.Lists.{replica_numbers, replicas_after}
+use Rattle.hr_history.specs.ReplicaNumbers.{replica_numbers, replicas_after}
 use Rattle.hr_history.specs.Primary.{is_live, candidate_of, search_after}
 use Rattle.hr_history.specs.View.{view_of}
 use Rattle.hr_history.specs.Processed.{live_in, candidate_in}

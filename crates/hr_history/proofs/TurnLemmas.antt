@@ -5,7 +5,8 @@ use Rattle.hr_history.specs.declared.entry.Entry.{Entry}
 use Rattle.hr_history.specs.declared.entry.Event.{Event}
 use Rattle.hr_history.specs.declared.entry.Event.TheVariants as event
 use Rattle.hr_history.specs.History.{History}
-use Rattle.hr_history.specs.Lists.{first_some, when, replica_numbers}
+use Rattle.hr_base.specs.Lists.{first_some, when}
+use Rattle.hr_history.specs.ReplicaNumbers.{replica_numbers}
 use Rattle.hr_history.specs.View.{View, view_of}
 use Rattle.hr_history.specs.Processed.{candidate_in, is_caught_up}
 use Rattle.hr_history.specs.Rules.{due}

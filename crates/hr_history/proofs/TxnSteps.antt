@@ -15,7 +15,7 @@ use Rattle.hr_history.specs.declared.job.JobReply.TheVariants as reply
 use Rattle.hr_history.specs.declared.phase.Phase.TheVariants as phase
 use Rattle.hr_history.specs.declared.phase.Fresh.{Fresh}
 use Rattle.hr_history.specs.History.{History, is_call}
-use Rattle.hr_history.specs.Lists.{numbered, one_to}
+use Rattle.hr_base.specs.Lists.{numbered, one_to}
 use Rattle.hr_history.specs.Transactions.{begun, next_begun, log, asks, submits, next_submits, phase_of, next_phase, is_open}
 use Rattle.hr_history.specs.Replicas.{out_at}
 use Rattle.hr_history.specs.Primary.{is_some_of}

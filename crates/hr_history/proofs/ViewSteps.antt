@@ -9,11 +9,11 @@ use Rattle.hr_history.specs.Primary.{primary_of, search_after, next_search_after
 use Rattle.hr_history.specs.Turn.{fresh_of, next_fresh}
 use Rattle.hr_history.specs.View.{Progress, Attempt, view_of, progress_in, attempt_state}
 use Rattle.hr_history.specs.Faithful.{is_begun}
-use Rattle.hr_history.specs.Step.{settled_after, fresh_after, replica_after, step_of}
+use Rattle.hr_history.specs.Step.{commits_after, fresh_after, replica_after, step_of}
 use Rattle.hr_history.proofs.StepLemmas.{replica_lookup, call_allowed}
 use Rattle.hr_history.proofs.TxnSteps.{map_same, fresh_same, txns_same}
 use Rattle.hr_history.proofs.ReplicaSteps.{candidate_same}
-use Rattle.hr_history.proofs.CallWords.{call_same, settled_same}
+use Rattle.hr_history.proofs.CallWords.{call_same, commits_same}
 use Rattle.hr_history.proofs.AttemptSteps.{attempt_same}
 
 -- the transactions that a replica was given statements of are the keys of its attempts
@@ -25,8 +25,8 @@ module _ (f caller : ℕ) (e : Event) (h : History) (fresh_too : next_fresh e (�
   replica_same : (r : ℕ) → r < 2 * f + 1 → progress_in (record { caller = caller; event = e } ∷ h) r ≡ replica_after (view_of f h) (length h) e r
   replica_same r lt =
       let here = sym (replica_lookup f r h lt) in
-      let it = settled_same (call_at r e h) (journal_of r h)
-      ∙ (λ k. settled_after (sym (call_same f r e h lt) k) record { lost = (here k).lost; position = (here k).position; doubt = (here k).doubt }) in
+      let it = commits_same (call_at r e h) (journal_of r h)
+      ∙ (λ k. commits_after (sym (call_same f r e h lt) k) record { lost = (here k).lost; position = (here k).position; doubt = (here k).doubt }) in
       let keys = sym (keys_of_made (λ t. attempt_state r (journal_of r h) h t) (dispatched r h)) ∙ ap (λ (p : Progress). map (λ (q : ℕ × Attempt). q.0) p.attempts) here in
       λ i. record {
         lost = (it i).lost;

@@ -1,10 +1,10 @@
 -- What a replica's part of the history tells of each transaction there, beside its attempt and its waits.
 use Rattle.std.specs.Prelude.{ℕ, Bool, true, false, not, ◌&&◌, ◌||◌, ◌==◌, if◌then◌else◌, Option, Some, None, List, [], ◌∷◌, ◌++◌, length}
-use Rattle.hr_engine.specs.Journal.{Call, Ran, Committed, RolledBack, Restarted, Journal}
-use Rattle.hr_engine.specs.Lists.{has}
+use Rattle.hr_engine.specs.Journal.{Call, Journal}
+use Rattle.hr_engine.specs.Effects.{Effect, effect_of, next_items}
+use Rattle.hr_engine.specs.Effects as does
+use Rattle.hr_base.specs.Lists.{has}
 use Rattle.hr_engine.specs.Waits.{wait, standing}
-use Rattle.hr_engine.specs.declared.reply.RunReply.TheVariants as run
-use Rattle.hr_engine.specs.declared.reply.EndReply.TheVariants as end
 use Rattle.hr_history.specs.declared.entry.Event.{Event}
 use Rattle.hr_history.specs.declared.entry.Event.TheVariants as event
 use Rattle.hr_history.specs.declared.job.Job.TheVariants as job
@@ -13,40 +13,32 @@ use Rattle.hr_history.specs.declared.phase.Last.TheVariants as last
 use Rattle.hr_history.specs.History.{History}
 use Rattle.hr_history.specs.Replicas.{call_at, journal_of}
 
-abbrev pub next_touched : ℕ → Call → Bool → Bool
-next_touched t (Ran u stmt (run.Done answer)) was = (t == u) || was
-next_touched t (Ran u stmt (run.Blocked named)) was = (t == u) || was
-next_touched t (Ran u stmt (run.Deadlock cycle)) was = (t == u) || was
-next_touched t (Ran u stmt run.Lost) was = false
-next_touched t (Ran u stmt run.NoMemory) was = was
-next_touched t (Committed u end.Done) was = not (t == u) && was
-next_touched t (Committed u end.Lost) was = false
-next_touched t (RolledBack u end.Done) was = not (t == u) && was
-next_touched t (RolledBack u end.Lost) was = false
-next_touched t (Restarted told) was = false
+abbrev pub next_touched : ℕ → Effect → Bool → Bool
+next_touched t (does.Runs u stmt answer) was = (t == u) || was
+next_touched t (does.Waits u named) was = (t == u) || was
+next_touched t (does.Closes u cycle) was = (t == u) || was
+next_touched t (does.Ends u) was = not (t == u) && was
+next_touched t does.EndsAll was = false
+next_touched t does.Nothing was = was
 
 -- whether a statement of a transaction was answered, Done or Blocked or Deadlock, since it was last committed or rolled
 -- back and since the last loss: then there is something to roll back
 abbrev pub is_touched : ℕ → Journal → Bool
 is_touched t [] = false
-is_touched t (call ∷ before) = next_touched t call (is_touched t before)
+is_touched t (call ∷ before) = next_touched t (effect_of call) (is_touched t before)
 
--- whether a call ends the attempt of transaction t
-abbrev pub ends_attempt : ℕ → Call → Bool
-ends_attempt t (Ran u stmt (run.Done answer)) = false
-ends_attempt t (Ran u stmt (run.Blocked named)) = false
-ends_attempt t (Ran u stmt (run.Deadlock cycle)) = false
-ends_attempt t (Ran u stmt run.Lost) = true
-ends_attempt t (Ran u stmt run.NoMemory) = false
-ends_attempt t (Committed u end.Done) = t == u
-ends_attempt t (Committed u end.Lost) = true
-ends_attempt t (RolledBack u end.Done) = t == u
-ends_attempt t (RolledBack u end.Lost) = true
-ends_attempt t (Restarted told) = true
+-- whether the attempt of transaction t ends
+abbrev pub ends_attempt : ℕ → Effect → Bool
+ends_attempt t (does.Runs u stmt answer) = false
+ends_attempt t (does.Waits u named) = false
+ends_attempt t (does.Closes u cycle) = false
+ends_attempt t (does.Ends u) = t == u
+ends_attempt t does.EndsAll = true
+ends_attempt t does.Nothing = false
 
 abbrev pub unless_ended : ℕ → Option Call → Bool → Bool
 unless_ended t None was = was
-unless_ended t (Some call) was = not (ends_attempt t call) && was
+unless_ended t (Some call) was = not (ends_attempt t (effect_of call)) && was
 
 -- what an entry makes of it, where it tells such a call of replica r, and there was something to roll back or not
 abbrev pub next_preempted : ℕ → ℕ → Event → Option Call → Bool → Bool → Bool
@@ -58,14 +50,9 @@ abbrev pub is_preempted : ℕ → ℕ → History → Bool
 is_preempted r t [] = false
 is_preempted r t (e ∷ before) = next_preempted r t e.event (call_at r e.event before) (is_touched t (journal_of r before)) (is_preempted r t before)
 
--- whether a call adds an answer to the attempt of transaction t
-abbrev pub adds_answer : ℕ → Call → Bool
-adds_answer t (Ran u stmt (run.Done answer)) = t == u
-adds_answer t _ = false
-
 abbrev pub next_places : ℕ → Option Call → ℕ → List ℕ → List ℕ
 next_places t None place places = places
-next_places t (Some call) place places = if ends_attempt t call then [] else if adds_answer t call then places ++ place ∷ [] else places
+next_places t (Some call) place places = next_items t (λ stmt answer. place) (effect_of call) places
 
 -- where in the history the answers of a transaction's attempt at a replica were told: the place of each one's Give
 abbrev pub places_told : ℕ → ℕ → History → List ℕ
@@ -90,11 +77,18 @@ still_told [] None = last.Answered
 still_told [] (Some cycle) = last.Deadlock cycle
 still_told (t ∷ named) cycle = last.Blocked (t ∷ named)
 
+abbrev pub told_by : ℕ → Effect → Option Last
+told_by t (does.Runs u stmt answer) = None
+told_by t (does.Waits u named) = if t == u then Some (last.Blocked named) else None
+told_by t (does.Closes u cycle) = if t == u then Some (last.Deadlock cycle) else None
+told_by t (does.Ends u) = None
+told_by t does.EndsAll = None
+told_by t does.Nothing = None
+
 -- what the journal's last call told, word for word, where that was a wait or a cycle of waits
 abbrev pub as_told : ℕ → Journal → Option Last
-as_told t (Ran u stmt (run.Blocked named) ∷ before) = if t == u then Some (last.Blocked named) else None
-as_told t (Ran u stmt (run.Deadlock cycle) ∷ before) = if t == u then Some (last.Deadlock cycle) else None
-as_told t _ = None
+as_told t [] = None
+as_told t (call ∷ before) = told_by t (effect_of call)
 
 abbrev pub or_still : Option Last → ℕ → Journal → Last
 or_still (Some told) t j = told

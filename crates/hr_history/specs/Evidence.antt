@@ -1,14 +1,13 @@
 -- What shows that a replica isn't correct.
 use Rattle.std.specs.Prelude.{ℕ, zero, suc, Bool, not, ◌&&◌, ◌==◌, Option, Some, None, List, [], ◌∷◌, ◌++◌, length, option_and_then}
 use Rattle.std.specs.List.{flat_map}
-use Rattle.hr_engine.specs.Lists.{has, once}
+use Rattle.hr_base.specs.Lists.{has, once, last_of, first_some, when}
 use Rattle.hr_engine.specs.Waits.{is_list_of_running, is_sound_deadlock}
 use Rattle.hr_engine.specs.declared.reply.RunReply.{RunReply}
 use Rattle.hr_engine.specs.declared.reply.RunReply.TheVariants as run
 use Rattle.hr_history.specs.declared.evidence.Evidence.{Evidence}
 use Rattle.hr_history.specs.declared.evidence.Evidence.TheVariants as evidence
 use Rattle.hr_history.specs.declared.phase.Fresh.{Fresh}
-use Rattle.hr_history.specs.Lists.{last_of, first_some, when}
 use Rattle.hr_history.specs.SameAnswers.{same_answers}
 use Rattle.hr_history.specs.Turn.{Turn, Counted}
 use Rattle.hr_history.specs.View.{View}

@@ -17,9 +17,9 @@ use Rattle.hr_history.specs.declared.cause.Why.{Why}
 use Rattle.hr_history.specs.declared.cause.Why.TheVariants as why
 use Rattle.hr_history.specs.declared.evidence.Evidence.{Evidence}
 use Rattle.hr_history.specs.declared.evidence.Evidence.TheVariants as evidence
-use Rattle.hr_history.specs.declared.limits.TheConstants.{MAX_SUBMITS, MAX_STATEMENTS}
+use Rattle.hr_base.specs.declared.limits.TheConstants.{MAX_SUBMITS, MAX_STATEMENTS}
 use Rattle.hr_history.specs.History.{History}
-use Rattle.hr_history.specs.Lists.{one_to}
+use Rattle.hr_base.specs.Lists.{one_to}
 use Rattle.hr_history.specs.SameAnswers.{is_canonical}
 use Rattle.hr_history.specs.Transactions.{begun, session_of, submits, submitted, phase_of, is_open}
 use Rattle.hr_history.specs.Replicas.{out_at, journal_of}

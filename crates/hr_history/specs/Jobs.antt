@@ -4,7 +4,7 @@ use Rattle.std.specs.List.{list_any}
 use Rattle.std.specs.Option.{option_map}
 use Rattle.hr_history.specs.declared.job.Job.{Job}
 use Rattle.hr_history.specs.declared.job.Job.TheVariants as job
-use Rattle.hr_history.specs.Lists.{first_some, when, one_to}
+use Rattle.hr_base.specs.Lists.{first_some, when, one_to}
 use Rattle.hr_history.specs.SameAnswers.{same_answers}
 use Rattle.hr_history.specs.Transactions.{is_open, is_logged, is_ended}
 use Rattle.hr_history.specs.Given.{Given}

@@ -1,4 +1,4 @@
-pub mod Lists
+pub mod ReplicaNumbers
 pub mod SameAnswers
 pub mod History
 pub mod Transactions

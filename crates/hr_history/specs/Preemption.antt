@@ -1,7 +1,7 @@
 -- Preemption: which transaction has to give way at a replica, and run again there later.
 use Rattle.std.specs.Prelude.{ℕ, Bool, false, not, ◌&&◌, ◌||◌, Option, Some, None, List, find}
 use Rattle.std.specs.List.{list_any, list_all}
-use Rattle.hr_engine.specs.Lists.{has}
+use Rattle.hr_base.specs.Lists.{has}
 use Rattle.hr_history.specs.Transactions.{is_asked, is_logged, is_ended}
 use Rattle.hr_history.specs.View.{View}
 use Rattle.hr_history.specs.Processed.{phase_in, attempt_in, runs_in, live_in, is_primary, wait_in, standing_in}

@@ -3,7 +3,7 @@ use Rattle.std.specs.Prelude.{ℕ, Bool, false, not, ◌&&◌, ◌==◌, if◌th
 use Rattle.hr_history.specs.declared.entry.Event.{Event}
 use Rattle.hr_history.specs.declared.entry.Event.TheVariants as event
 use Rattle.hr_history.specs.History.{History}
-use Rattle.hr_history.specs.Lists.{replicas_after}
+use Rattle.hr_history.specs.ReplicaNumbers.{replicas_after}
 use Rattle.hr_history.specs.Replicas.{is_lost, is_convicted, tells_loss}
 
 abbrev pub is_some_of : ℕ → Option ℕ → Bool

@@ -2,13 +2,12 @@
 use Rattle.std.specs.Prelude.{ℕ, Bool, false, not, ◌&&◌, ◌||◌, ◌==◌, nat_eq, nat_le, Option, Some, None, unwrap_or, List, [], length, slice_get, take_while, option_and_then}
 use Rattle.std.specs.Map.{lookup}
 use Rattle.hr_rel.specs.declared.answer.Answer.{Answer}
-use Rattle.hr_engine.specs.Lists.{is_empty}
+use Rattle.hr_base.specs.Lists.{is_empty, numbered}
 use Rattle.hr_engine.specs.Waits.{if_all}
 use Rattle.hr_history.specs.declared.phase.Phase.{Phase}
 use Rattle.hr_history.specs.declared.phase.Phase.TheVariants as phase
 use Rattle.hr_history.specs.declared.phase.Last.{Last}
 use Rattle.hr_history.specs.declared.phase.Last.TheVariants as last
-use Rattle.hr_history.specs.Lists.{numbered}
 use Rattle.hr_history.specs.Given.{answers_given}
 use Rattle.hr_history.specs.Primary.{is_some_of, candidate_after}
 use Rattle.hr_history.specs.View.{View, TxnState, Progress, Attempt}

@@ -2,7 +2,7 @@
 use Rattle.std.specs.Prelude.{ℕ, Bool, ◌&&◌, ◌||◌, ◌==◌, nat_lt, Option, List}
 use Rattle.hr_history.specs.declared.phase.Phase.{Phase}
 use Rattle.hr_history.specs.declared.phase.Phase.TheVariants as phase
-use Rattle.hr_history.specs.Lists.{first_by}
+use Rattle.hr_base.specs.Lists.{first_by}
 use Rattle.hr_history.specs.View.{View}
 use Rattle.hr_history.specs.Processed.{phase_in}
 

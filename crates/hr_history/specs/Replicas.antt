@@ -13,7 +13,7 @@ use Rattle.hr_history.specs.declared.job.Job.TheVariants as job
 use Rattle.hr_history.specs.declared.job.JobReply.{JobReply}
 use Rattle.hr_history.specs.declared.job.JobReply.TheVariants as reply
 use Rattle.hr_history.specs.History.{History}
-use Rattle.hr_history.specs.Lists.{numbered}
+use Rattle.hr_base.specs.Lists.{numbered}
 use Rattle.hr_history.specs.Transactions.{submits}
 
 abbrev pub next_out : ℕ → Event → Option Job → Option Job

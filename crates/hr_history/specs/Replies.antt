@@ -22,7 +22,7 @@ use Rattle.hr_history.specs.declared.reply.Reply.TheVariants as told
 use Rattle.hr_history.specs.declared.reply.Ending.{Ending}
 use Rattle.hr_history.specs.declared.reply.Ending.TheVariants as ending
 use Rattle.hr_history.specs.History.{History}
-use Rattle.hr_history.specs.Lists.{numbered}
+use Rattle.hr_base.specs.Lists.{numbered}
 use Rattle.hr_history.specs.Transactions.{session_of, log, phase_of}
 use Rattle.hr_history.specs.Replicas.{out_at}
 use Rattle.hr_history.specs.Primary.{is_some_of}

@@ -10,7 +10,8 @@ use Rattle.hr_history.specs.declared.cause.CauseAt.TheVariants as cause
 use Rattle.hr_history.specs.declared.evidence.Evidence.TheVariants as evidence
 use Rattle.hr_history.specs.declared.phase.Fresh.{Fresh}
 use Rattle.hr_history.specs.History.{History}
-use Rattle.hr_history.specs.Lists.{last_of, first_some, when, replica_numbers, numbered}
+use Rattle.hr_base.specs.Lists.{last_of, first_some, when, numbered}
+use Rattle.hr_history.specs.ReplicaNumbers.{replica_numbers}
 use Rattle.hr_history.specs.Transactions.{is_open}
 use Rattle.hr_history.specs.Turn.{Turn, Gone, Contradiction, turn_of}
 use Rattle.hr_history.specs.View.{View, view_of}
@@ -61,11 +62,11 @@ module _ (v : View) (turn : Turn) where
   decide = option_map (λ t. event.Decide t) (first_in_rank v (filter (is_decidable v) (txn_numbers v)))
 
   -- where the answer number i of replica r to transaction t was told
-  abbrev pub place_of : ℕ → ℕ → ℕ → ℕ
-  place_of r t i = unwrap_or (numbered (attempt_in v r t).places i) 0
+  abbrev pub answer_place : ℕ → ℕ → ℕ → ℕ
+  answer_place r t i = unwrap_or (numbered (attempt_in v r t).places i) 0
 
   abbrev pub refuse_as_differ : ℕ → Option Event
-  refuse_as_differ t = option_map (λ r. event.Refuse t (cause.Differ (difference_at v r t) r (place_of r t (difference_at v r t)))) (contradicted_by v t)
+  refuse_as_differ t = option_map (λ r. event.Refuse t (cause.Differ (difference_at v r t) r (answer_place r t (difference_at v r t)))) (contradicted_by v t)
 
   -- Differ: the transaction that ranks first of those whose given answers are contradicted is refused.
   abbrev pub differ : Option Event

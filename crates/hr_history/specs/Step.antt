@@ -1,12 +1,12 @@
 -- What an entry makes of a view, by the view alone.
-use Rattle.std.specs.Prelude.{ℕ, ◌+◌, Bool, true, false, not, ◌&&◌, ◌==◌, if◌then◌else◌, Option, Some, None, Ok, Err, List, [], ◌∷◌, ◌++◌, length, map, filter, option_and_then}
+use Rattle.std.specs.Prelude.{ℕ, ◌+◌, Bool, true, false, not, ◌&&◌, ◌==◌, if◌then◌else◌, Option, Some, None, List, [], ◌∷◌, ◌++◌, length, map, filter, option_and_then}
 use Rattle.hr_rel.specs.declared.answer.Answer.{Answer}
-use Rattle.hr_engine.specs.Journal.{Call, Ran, Committed, RolledBack, Restarted}
-use Rattle.hr_engine.specs.Base.{shown}
-use Rattle.hr_engine.specs.Lists.{is_empty, once}
+use Rattle.hr_engine.specs.Journal.{Call}
+use Rattle.hr_engine.specs.Effects.{Effect, effect_of, next_items, Settling, settling_of}
+use Rattle.hr_engine.specs.Effects as does
+use Rattle.hr_base.specs.Counters.{shown}
+use Rattle.hr_base.specs.Lists.{is_empty, once}
 use Rattle.hr_engine.specs.Waits.{next_wait, next_standing, if_all}
-use Rattle.hr_engine.specs.declared.reply.RunReply.TheVariants as run
-use Rattle.hr_engine.specs.declared.reply.EndReply.TheVariants as end
 use Rattle.hr_history.specs.declared.entry.Entry.{Entry}
 use Rattle.hr_history.specs.declared.entry.Event.{Event}
 use Rattle.hr_history.specs.declared.entry.Event.TheVariants as event
@@ -15,28 +15,27 @@ use Rattle.hr_history.specs.declared.phase.Phase.TheVariants as phase
 use Rattle.hr_history.specs.declared.phase.Last.{Last}
 use Rattle.hr_history.specs.declared.phase.Fresh.{Fresh}
 use Rattle.hr_history.specs.History.{History}
-use Rattle.hr_history.specs.Lists.{replica_numbers}
+use Rattle.hr_history.specs.ReplicaNumbers.{replica_numbers}
 use Rattle.hr_history.specs.Transactions.{asks, next_log, next_phase}
 use Rattle.hr_history.specs.Replicas.{any_stmt, next_out, next_convicted, call_told}
 use Rattle.hr_history.specs.Primary.{next_primary, next_search_after}
 use Rattle.hr_history.specs.Given.{Found, next_given}
-use Rattle.hr_history.specs.Attempts.{next_touched, next_preempted, next_places, ends_attempt, still_told, as_told, next_dispatched}
+use Rattle.hr_history.specs.Attempts.{next_touched, next_preempted, next_places, still_told, told_by, next_dispatched}
 use Rattle.hr_history.specs.Turn.{next_replies, next_fresh}
 use Rattle.hr_history.specs.View.{View, TxnState, Progress, Attempt, is_fresh, view_of}
 use Rattle.hr_history.specs.Processed.{txn_in, phase_in, replica_in, attempt_in, candidate_in, named_in, cycle_in}
 use Rattle.hr_history.specs.Jobs.{txn_numbers}
 
-abbrev pub next_answers : ℕ → Call → List Answer → List Answer
-next_answers t (Ran u stmt (run.Done answer)) answers = if t == u then answers ++ answer ∷ [] else answers
-next_answers t call answers = if ends_attempt t call then [] else answers
+abbrev pub next_answers : ℕ → Effect → List Answer → List Answer
+next_answers t effect answers = next_items t (λ stmt answer. answer) effect answers
 
 abbrev pub answers_after : ℕ → Option Call → List Answer → List Answer
 answers_after t None answers = answers
-answers_after t (Some call) answers = next_answers t call answers
+answers_after t (Some call) answers = next_answers t (effect_of call) answers
 
 abbrev pub touched_after : ℕ → Option Call → Bool → Bool
 touched_after t None was = was
-touched_after t (Some call) was = next_touched t call was
+touched_after t (Some call) was = next_touched t (effect_of call) was
 
 abbrev pub next_count : ℕ → Event → ℕ → ℕ
 next_count t (event.Begin session txn) n = if txn == t then 0 else n
@@ -48,32 +47,21 @@ begun_by (event.Begin session txn) = record { session = session; statements = 0;
 begun_by _ = []
 
 -- Whether a replica is lost, how many transactions it has committed, and whether its last commit is in doubt.
-pub record Settled : Type 0 where
+pub record Commits : Type 0 where
   pub lost : Bool
   pub position : ℕ
   pub doubt : Bool
 
--- a loss begins, at a commit or not, or one lasts
-abbrev pub at_loss : Bool → Settled → Settled
-at_loss commit s = record { lost = true; position = s.position; doubt = if s.lost then s.doubt else commit }
-
-abbrev pub next_settled : Call → Settled → Settled
-next_settled (Ran t stmt (run.Done answer)) s = s
-next_settled (Ran t stmt (run.Blocked named)) s = s
-next_settled (Ran t stmt (run.Deadlock cycle)) s = s
-next_settled (Ran t stmt run.Lost) s = at_loss false s
-next_settled (Ran t stmt run.NoMemory) s = s
-next_settled (Committed t end.Done) s = record { lost = s.lost; position = s.position + 1; doubt = s.doubt }
-next_settled (Committed t end.Lost) s = at_loss true s
-next_settled (RolledBack t end.Done) s = s
-next_settled (RolledBack t end.Lost) s = at_loss false s
-next_settled (Restarted (Ok told)) s =
+abbrev pub next_commits : Settling → Commits → Commits
+next_commits does.Counts s = record { lost = s.lost; position = s.position + 1; doubt = s.doubt }
+next_commits (does.Loses at_commit) s = record { lost = true; position = s.position; doubt = if s.lost then s.doubt else at_commit }
+next_commits (does.Tells told) s =
     record { lost = false; position = if s.doubt && (told == shown (s.position + 1)) then s.position + 1 else s.position; doubt = false }
-next_settled (Restarted (Err lost)) s = at_loss false s
+next_commits does.Keeps s = s
 
-abbrev pub settled_after : Option Call → Settled → Settled
-settled_after None s = s
-settled_after (Some call) s = next_settled call s
+abbrev pub commits_after : Option Call → Commits → Commits
+commits_after None s = s
+commits_after (Some call) s = next_commits (settling_of call) s
 
 -- what was told just now, if it was, and else what is still told
 abbrev pub last_if : Bool → Option Last → Last → Last
@@ -117,12 +105,12 @@ module _ (v : View) where
 
   -- whether a transaction runs at replica r after a call
   abbrev pub runs_after : ℕ → Call → ℕ → Bool
-  runs_after r call t = not (is_empty (next_answers t call (attempt_in v r t).answers))
+  runs_after r call t = not (is_empty (next_answers t (effect_of call) (attempt_in v r t).answers))
 
   abbrev pub last_by_call : Bool → ℕ → ℕ → Call → Last
-  last_by_call fresh r t call = last_if fresh (as_told t (call ∷ [])) (still_told
-      (filter (runs_after r call) (next_wait t call (wait_left r t)))
-      (option_and_then (if_all (runs_after r call)) (next_standing t call (standing_left r t))))
+  last_by_call fresh r t call = last_if fresh (told_by t (effect_of call)) (still_told
+      (filter (runs_after r call) (next_wait t (effect_of call) (wait_left r t)))
+      (option_and_then (if_all (runs_after r call)) (next_standing t (effect_of call) (standing_left r t))))
 
   -- what the last reply to a transaction tells then: this turn's stands as it was told
   abbrev pub last_after : Event → ℕ → ℕ → Option Call → Last
@@ -139,10 +127,10 @@ module _ (v : View) where
     preempted = next_preempted r t e (call_in r e) (attempt_in v r t).touched (attempt_in v r t).preempted;
   }
 
-  abbrev pub settled_in : ℕ → Settled
-  settled_in r = record { lost = (replica_in v r).lost; position = (replica_in v r).position; doubt = (replica_in v r).doubt }
+  abbrev pub commits_in : ℕ → Commits
+  commits_in r = record { lost = (replica_in v r).lost; position = (replica_in v r).position; doubt = (replica_in v r).doubt }
 
-  abbrev pub progress_after : ℕ → Event → ℕ → Settled → Progress
+  abbrev pub progress_after : ℕ → Event → ℕ → Commits → Progress
   progress_after place e r s = record {
     lost = s.lost;
     convicted = next_convicted r e (replica_in v r).convicted;
@@ -153,7 +141,7 @@ module _ (v : View) where
   }
 
   abbrev pub replica_after : ℕ → Event → ℕ → Progress
-  replica_after place e r = progress_after place e r (settled_after (call_in r e) (settled_in r))
+  replica_after place e r = progress_after place e r (commits_after (call_in r e) (commits_in r))
 
 -- The view after one more entry, by the view before it, the number of entries before it, and how often a commit was asked
 -- for before it.

@@ -6,7 +6,7 @@ use Rattle.hr_history.specs.declared.entry.Event.TheVariants as event
 use Rattle.hr_history.specs.declared.phase.Phase.{Phase}
 use Rattle.hr_history.specs.declared.phase.Phase.TheVariants as phase
 use Rattle.hr_history.specs.History.{History}
-use Rattle.hr_history.specs.Lists.{numbered}
+use Rattle.hr_base.specs.Lists.{numbered}
 
 abbrev pub next_begun : Event → List ℕ → List ℕ
 next_begun (event.Begin session txn) sessions = sessions ++ session ∷ []

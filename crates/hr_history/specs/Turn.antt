@@ -2,7 +2,8 @@
 use Rattle.std.specs.Prelude.{ℕ, ◌+◌, Bool, not, ◌&&◌, ◌||◌, ◌==◌, if◌then◌else◌, Option, Some, None, is_some, List, [], ◌∷◌, ◌++◌, length}
 use Rattle.std.specs.Option.{option_map}
 use Rattle.hr_engine.specs.Journal.{Journal}
-use Rattle.hr_engine.specs.Base.{count, settled, shown}
+use Rattle.hr_engine.specs.Base.{count, settled}
+use Rattle.hr_base.specs.Counters.{shown}
 use Rattle.hr_engine.specs.declared.reply.RunReply.{RunReply}
 use Rattle.hr_history.specs.declared.entry.Entry.{Entry}
 use Rattle.hr_history.specs.declared.entry.Event.{Event}
@@ -16,7 +17,7 @@ use Rattle.hr_history.specs.declared.cause.Why.{Why}
 use Rattle.hr_history.specs.declared.cause.Why.TheVariants as why
 use Rattle.hr_history.specs.declared.phase.Fresh.{Fresh}
 use Rattle.hr_history.specs.History.{History, is_call}
-use Rattle.hr_history.specs.Lists.{when}
+use Rattle.hr_base.specs.Lists.{when}
 use Rattle.hr_history.specs.Replicas.{out_at, journal_of, tells_loss}
 use Rattle.hr_history.specs.Primary.{primary_of, is_some_of}
 

@@ -10,7 +10,8 @@ use Rattle.hr_history.specs.declared.phase.Phase.{Phase}
 use Rattle.hr_history.specs.declared.phase.Last.{Last}
 use Rattle.hr_history.specs.declared.phase.Fresh.{Fresh}
 use Rattle.hr_history.specs.History.{History}
-use Rattle.hr_history.specs.Lists.{one_to, replica_numbers}
+use Rattle.hr_base.specs.Lists.{one_to}
+use Rattle.hr_history.specs.ReplicaNumbers.{replica_numbers}
 use Rattle.hr_history.specs.Transactions.{begun, session_of, log, submits, phase_of}
 use Rattle.hr_history.specs.Replicas.{out_at, journal_of, is_convicted}
 use Rattle.hr_history.specs.Primary.{primary_of, search_after}

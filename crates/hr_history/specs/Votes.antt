@@ -1,6 +1,6 @@
 -- When a transaction may be decided, and when its given answers are contradicted.
 use Rattle.std.specs.Prelude.{ℕ, ◌+◌, Bool, not, ◌&&◌, ◌==◌, nat_le, Option, is_some, length, count_by, find}
-use Rattle.hr_history.specs.Lists.{replica_numbers}
+use Rattle.hr_history.specs.ReplicaNumbers.{replica_numbers}
 use Rattle.hr_history.specs.SameAnswers.{same_answers, first_difference}
 use Rattle.hr_history.specs.Transactions.{is_asked}
 use Rattle.hr_history.specs.View.{View}

@@ -10,7 +10,6 @@ mod entry;
 mod evidence;
 mod job;
 pub mod laws;
-mod limits;
 mod phase;
 mod reply;
 
@@ -18,6 +17,5 @@ pub use cause::{Cause, CauseAt, Why};
 pub use entry::{Entry, Event};
 pub use evidence::Evidence;
 pub use job::{Job, JobReply};
-pub use limits::{MAX_STATEMENTS, MAX_SUBMITS};
 pub use phase::{Fresh, Last, Phase};
 pub use reply::{Ending, Reply};

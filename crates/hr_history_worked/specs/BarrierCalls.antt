@@ -1,7 +1,7 @@
 -- A reader's answer was given after a commit; at a replica that hasn't processed that commit its statement has to wait.
 use Rattle.std.specs.Prelude.{List, [], ◌∷◌}
 use Rattle.hr_rel.specs.declared.answer.Answer.TheVariants.{Rows, Count}
-use Rattle.hr_rel.specs.Worked.{one, select_v}
+use Rattle.hr_meaning.specs.Worked.{one, select_v}
 use Rattle.hr_history.specs.declared.entry.Entry.{Entry}
 use Rattle.hr_history.specs.declared.entry.Event.TheVariants as event
 use Rattle.hr_history.specs.declared.job.Job.TheVariants.{Run, Commit}

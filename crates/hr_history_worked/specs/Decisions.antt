@@ -1,7 +1,7 @@
 -- Which transaction is decided, and which contradicted, where several are asked for.
 use Rattle.std.specs.Prelude.{List, [], ◌∷◌}
 use Rattle.hr_rel.specs.declared.answer.Answer.TheVariants.{Count}
-use Rattle.hr_rel.specs.Worked.{insert}
+use Rattle.hr_meaning.specs.Worked.{insert}
 use Rattle.hr_history.specs.declared.entry.Entry.{Entry}
 use Rattle.hr_history.specs.declared.entry.Event.TheVariants as event
 use Rattle.hr_history.specs.declared.job.Job.TheVariants.{Run, Restart}

@@ -1,7 +1,7 @@
 -- The primary answers wrongly, is contradicted and convicted; both sessions try again at the new one.
 use Rattle.std.specs.Prelude.{List, [], ◌∷◌}
 use Rattle.hr_rel.specs.declared.answer.Answer.TheVariants.{Rows}
-use Rattle.hr_rel.specs.Worked.{one, select_v}
+use Rattle.hr_meaning.specs.Worked.{one, select_v}
 use Rattle.hr_history.specs.declared.entry.Entry.{Entry}
 use Rattle.hr_history.specs.declared.entry.Event.TheVariants as event
 use Rattle.hr_history.specs.declared.job.Job.TheVariants.{Run, Commit, Rollback}

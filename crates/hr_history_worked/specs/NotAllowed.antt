@@ -1,7 +1,7 @@
 -- Histories whose last entry is a call that isn't allowed there, but for one that is.
 use Rattle.std.specs.Prelude.{List, [], ◌∷◌, ◌++◌, take as first}
 use Rattle.hr_rel.specs.declared.answer.Answer.TheVariants.{Rows}
-use Rattle.hr_rel.specs.Worked.{one, insert, select_v}
+use Rattle.hr_meaning.specs.Worked.{one, insert, select_v}
 use Rattle.hr_history.specs.declared.entry.Entry.{Entry}
 use Rattle.hr_history.specs.declared.entry.Event.TheVariants as event
 use Rattle.hr_history.specs.declared.job.Job.TheVariants.{Run, Rollback}

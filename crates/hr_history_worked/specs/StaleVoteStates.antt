@@ -1,7 +1,7 @@
 -- The states of `stale_vote` after each of its turns.
 use Rattle.std.specs.Prelude.{ℕ, Some, None, List, [], ◌∷◌}
 use Rattle.hr_rel.specs.declared.answer.Answer.TheVariants.{Rows, Count}
-use Rattle.hr_rel.specs.Worked.{one}
+use Rattle.hr_meaning.specs.Worked.{one}
 use Rattle.hr_history.specs.declared.job.Job.{Job}
 use Rattle.hr_history.specs.declared.job.Job.TheVariants.{Run, Commit, Rollback}
 use Rattle.hr_history.specs.declared.reply.Reply.TheVariants.{Answered, Committed, Refused}

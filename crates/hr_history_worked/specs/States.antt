@@ -2,7 +2,8 @@
 use Rattle.std.specs.Prelude.{ℕ, Bool, true, if◌then◌else◌, Option, List, [], ◌∷◌, ◌++◌, map}
 use Rattle.hr_history.specs.declared.job.Job.{Job}
 use Rattle.hr_history.specs.History.{History, is_call}
-use Rattle.hr_history.specs.Lists.{one_to, replica_numbers}
+use Rattle.hr_base.specs.Lists.{one_to}
+use Rattle.hr_history.specs.ReplicaNumbers.{replica_numbers}
 use Rattle.hr_history.specs.Transactions.{log}
 use Rattle.hr_history.specs.View.{View, view_of}
 use Rattle.hr_history.specs.Processed.{replica_in, processed_in}

@@ -2,7 +2,7 @@
 use Rattle.std.specs.Prelude.{ℕ, true, false, Option, Some, None, List, [], ◌∷◌}
 use Rattle.hr_rel.specs.declared.answer.Answer.{Answer}
 use Rattle.hr_rel.specs.declared.answer.Answer.TheVariants.{Rows, Count}
-use Rattle.hr_rel.specs.Worked.{one}
+use Rattle.hr_meaning.specs.Worked.{one}
 use Rattle.hr_engine.specs.declared.reply.RunReply.TheVariants.{Done, Blocked, Lost}
 use Rattle.hr_history.specs.declared.phase.Phase.{Phase}
 use Rattle.hr_history.specs.declared.phase.Phase.TheVariants.{Active, Asked, Logged, Refused}

@@ -1,3 +1,4 @@
+-- The bytes of sources and sinks.
 use Rattle.std.specs.Prelude.{ℕ, ◌≤◌, ◌<◌, List, length, take, Option, Result, IfOk}
 use Rattle.std.specs.Io.KnownBytes.{Appends}
 use Rattle.hr_io.specs.Calls.{CallLog}

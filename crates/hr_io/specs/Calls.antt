@@ -1,4 +1,6 @@
-use Rattle.std.specs.Prelude.{ℕ, ◌+◌, ◌-◌, ◌^◌, min, List, Contains}
+-- The calls of a source or a sink over memory.
+use Rattle.std.specs.Prelude.{ℕ, List, Contains}
+use Rattle.hr_base.specs.Counters.{next_count}
 
 -- which calls are to fail, by number from 1; how many calls were made; how many failed
 pub record CallLog : Type 0 where
@@ -9,10 +11,6 @@ pub record CallLog : Type 0 where
 -- no call was made yet
 abbrev pub fresh_calls : List ℕ → CallLog
 fresh_calls failing = record { failing = failing; made = 0; faults = 0 }
-
--- a counter's next value; it stands still at the end of its type
-abbrev pub next_count : ℕ → ℕ
-next_count n = min (n + 1) (2 ^ 64 - 1)
 
 -- the next call is one of those that are to fail
 abbrev pub IsToFail : CallLog → Type 0

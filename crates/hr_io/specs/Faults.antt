@@ -1,8 +1,6 @@
-use Rattle.std.specs.Prelude.{◌≡◌, ℕ, ◌+◌, ◌-◌, ◌^◌, ◌≤◌, min, Result, OnOk, OnErr}
-
--- a count is higher than before, or stands at the end of its type
-abbrev pub Rose : ℕ → ℕ → Type 0
-Rose before now = min (before + 1) (2 ^ 64 - 1) ≤ now
+-- The faults of a source or a sink.
+use Rattle.std.specs.Prelude.{◌≡◌, ℕ, ◌≤◌, Result, OnOk, OnErr}
+use Rattle.hr_base.specs.Counters.{Rose}
 
 -- A call's count of faults never falls. An error comes only where it rose, and where it rose an error comes.
 pub record HasCause {T E : Type 0} (before now : ℕ) (result : Result T E) : Type 0 where

@@ -2,7 +2,8 @@
 
 ghost use Rattle.std.specs.Prelude.{◌≡◌, ◌≤◌, ◌↔◌, IsErr, OnErr, OnOk};
 ghost use Rattle.hr_io.specs.Faults.{HasCause};
-ghost use Rattle.hr_io.specs.Calls.{IsToFail, fresh_calls, next_count, one_more, one_failed};
+ghost use Rattle.hr_io.specs.Calls.{IsToFail, fresh_calls, one_more, one_failed};
+ghost use Rattle.hr_base.specs.Counters.{next_count};
 
 use crate::error::Failed;
 use std::marker::Model;

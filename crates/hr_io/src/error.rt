@@ -6,9 +6,6 @@ ghost use Rattle.hr_io.specs.declared.error.ReadError.TheVariants.{Memory};
 use std::alloc::AllocError;
 use thiserror::Error;
 
-/// Memory was refused: std's own word for it, which every call that allocates may answer.
-pub type NoMemory = AllocError;
-
 /// A source or a sink failed at a call, and moved nothing in it.
 #[derive(Clone, Copy, Debug, PartialEq, Eq, Error)]
 #[error("input or output failed")]

@@ -13,7 +13,7 @@ pub mod source;
 pub mod std_streams;
 pub mod whole;
 
-pub use error::{Failed, NoMemory, ReadError};
+pub use error::{Failed, ReadError};
 pub use gate::{Gate, OpenGate};
 pub use sink::{MemSink, Sink};
 pub use source::{MemSource, Source};

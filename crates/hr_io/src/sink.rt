@@ -8,8 +8,8 @@ ghost use Rattle.hr_io.specs.Bytes.{IsFull, MovesSome};
 ghost use Rattle.hr_io.specs.Calls.{IsToFail, fresh_calls, one_more, one_failed};
 
 use crate::calls::Calls;
-use crate::error::{Failed, NoMemory};
-use std::alloc::Global;
+use crate::error::Failed;
+use std::alloc::{AllocError, Global};
 use std::marker::Model;
 
 /// Takes bytes, a piece at each call.
@@ -58,7 +58,7 @@ impl MemSink {
         piece: usize,
         room: usize,
         failing: Vec<u64>,
-    ) -> Result<Self, NoMemory>
+    ) -> Result<Self, AllocError>
         requires { 0 < piece }
         ensures taken { IfOk result (λ sink. sink.taken ≡ []) }
         ensures piece { IfOk result (λ sink. sink.piece ≡ piece) }

@@ -2,7 +2,8 @@
 
 ghost use Rattle.std.specs.Prelude.{◌≡◌, ◌≢◌, ◌≤◌, ◌+◌, ℕ, List, Err, length, vec_len, IfOk, OnOk, OnErr};
 ghost use Rattle.std.specs.Io.KnownBytes.{Consumes, Appends, IsAtEnd};
-ghost use Rattle.hr_io.specs.Faults.{Rose, HasCause};
+ghost use Rattle.hr_base.specs.Counters.{Rose};
+ghost use Rattle.hr_io.specs.Faults.{HasCause};
 ghost use Rattle.hr_io.specs.Bytes.{AppendsFront};
 
 use crate::error::{Failed, ReadError};

@@ -4,15 +4,15 @@ use Rattle.std.specs.List.{list_any}
 use Rattle.std.proofs.lemmas.Bool.{and_from, and_left, and_right, eq-eqb, ne_eqb, cases_eq}
 use Rattle.hr_rel.specs.declared.stmt.Stmt.{Stmt}
 use Rattle.hr_engine.specs.Journal.{Journal}
-use Rattle.hr_engine.specs.Attempts.{Step, attempt, IsRunning, is_running}
+use Rattle.hr_engine.specs.Attempts.{RanStmt, attempt, IsRunning, is_running}
 use Rattle.hr_engine.specs.Waits.{wait, IsSoundBlocked, Leads}
 use Rattle.hr_engine.specs.Exact.{is_in_the_way, AreHolders, closes, IsExactBlocked}
-use Rattle.hr_engine.specs.Lists.{has, is_empty}
-use Rattle.hr_engine.proofs.ListLaws.{has_one}
+use Rattle.hr_base.specs.Lists.{has, is_empty}
+use Rattle.hr_base.proofs.ListLaws.{has_one}
 use Rattle.hr_engine.proofs.WaitLaws.{no_chain, leads_nowhere}
 use Rattle.hr_one_engine.specs.Run.{one_lock}
 
-any_step : (steps : List Step) → list_any (λ s. true) steps ≡ not (is_empty steps)
+any_step : (steps : List RanStmt) → list_any (λ s. true) steps ≡ not (is_empty steps)
 any_step [] = refl
 any_step (s ∷ steps) = refl
 

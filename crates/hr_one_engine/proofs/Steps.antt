@@ -4,17 +4,18 @@ use Rattle.std.specs.List.{AllZip}
 use Rattle.hr_rel.specs.declared.answer.Answer.{Answer}
 use Rattle.hr_rel.specs.declared.stmt.Stmt.{Stmt}
 use Rattle.hr_rel.specs.Database.{Database}
-use Rattle.hr_rel.specs.Exec.{exec}
-use Rattle.hr_rel.specs.Serial.{Played, play, database_after}
-use Rattle.hr_rel.specs.SameAnswer.{SameAnswer}
+use Rattle.hr_meaning.specs.Exec.{exec}
+use Rattle.hr_meaning.specs.Serial.{Played, play, database_after}
+use Rattle.hr_meaning.specs.SameAnswer.{SameAnswer}
 use Rattle.hr_engine.specs.declared.reply.RunReply.TheVariants as run
 use Rattle.hr_engine.specs.declared.reply.EndReply.TheVariants as end
 use Rattle.hr_engine.specs.Journal.{Call, Ran, Committed, RolledBack, Restarted, Journal}
-use Rattle.hr_engine.specs.Attempts.{Step, attempt, statements, answers, IsRunning, is_running}
-use Rattle.hr_engine.specs.Base.{Settled, settled, count, base, shown}
+use Rattle.hr_engine.specs.Attempts.{RanStmt, attempt, statements, answers, IsRunning, is_running}
+use Rattle.hr_engine.specs.Base.{Settled, settled, count, base}
+use Rattle.hr_base.specs.Counters.{shown}
 use Rattle.hr_engine.specs.Rigorous.{AnyOrder, IsSound}
 use Rattle.hr_engine.specs.Exact.{IsExact}
-use Rattle.hr_engine.specs.Lists.{is_empty}
+use Rattle.hr_base.specs.Lists.{is_empty}
 use Rattle.std.proofs.lemmas.Bool.{eq-eqb, or_left, cases_eq}
 use Rattle.hr_engine.proofs.SerialLaws.{play-append, then_played}
 use Rattle.hr_engine.proofs.Orders.{none_run, one_runs}
@@ -36,7 +37,7 @@ map-more f [] x = refl
 map-more f (y ∷ xs) x = ap (λ ys. f y ∷ ys) (map-more f xs x)
 
 -- one more statement of the attempt
-plays_more : (before now : Database) (steps : List Step) (s : Stmt) (a : Answer) → Plays before steps now → SameAnswer (exec now s).answer a
+plays_more : (before now : Database) (steps : List RanStmt) (s : Stmt) (a : Answer) → Plays before steps now → SameAnswer (exec now s).answer a
     → Plays before (steps ++ record { stmt = s; answer = a } ∷ []) (exec now s).after
 plays_more before now steps s a played same =
     let split = play-append before (statements steps) (s ∷ []) in
@@ -52,7 +53,7 @@ plays_more before now steps s a played same =
     }
 
 -- where a transaction doesn't run, its attempt is empty
-nothing_done : (steps : List Step) → not (is_empty steps) ≡ false → steps ≡ []
+nothing_done : (steps : List RanStmt) → not (is_empty steps) ≡ false → steps ≡ []
 nothing_done [] h = refl
 nothing_done (s ∷ steps) h = cc
 
@@ -70,7 +71,7 @@ module _ (journal : Journal) where
 
 -- an empty attempt means that a transaction doesn't run
 stopped_by : (journal : Journal) (t : ℕ) → attempt t journal ≡ [] → is_running t journal ≡ false
-stopped_by journal t empty = ap (λ (steps : List Step). not (is_empty steps)) empty
+stopped_by journal t empty = ap (λ (steps : List RanStmt). not (is_empty steps)) empty
 
 -- one more commit, as a counter shows it
 one_more_shown : (n m k : ℕ) → n ≡ shown m → k ≡ m + 1 → min (n + 1) (2 ^ 64 - 1) ≡ shown k
@@ -104,9 +105,9 @@ module _ (start : Database) (journal : Journal) where
   free_done rows n t s a same h =
       let call = Ran t s (run.Done a) in
       let done : attempt t (call ∷ journal) ≡ record { stmt = s; answer = a } ∷ [] =
-      attempt-done journal t s a ∙ ap (λ (steps : List Step). steps ++ record { stmt = s; answer = a } ∷ []) (idle journal t (h.stopped t)) in
+      attempt-done journal t s a ∙ ap (λ (steps : List RanStmt). steps ++ record { stmt = s; answer = a } ∷ []) (idle journal t (h.stopped t)) in
       let plays : Plays rows (attempt t (call ∷ journal)) (exec rows s).after =
-      subst (λ (steps : List Step). Plays rows steps (exec rows s).after) (sym done) (plays_more rows rows [] s a record { rows = refl; answered = tt } same) in
+      subst (λ (steps : List RanStmt). Plays rows steps (exec rows s).after) (sym done) (plays_more rows rows [] s a record { rows = refl; answered = tt } same) in
       let alone : (u : ℕ) → IsRunning u (call ∷ journal) → u ≡ t = λ u r.
       elim (running_after_done journal t s a u r) [ inl e ↦ e | inr ran ↦ cc (h.stopped u) ] in
       record {
@@ -123,7 +124,7 @@ module _ (start : Database) (journal : Journal) where
   held_done now before n t s a same h =
       let call = Ran t s (run.Done a) in
       let plays : Plays before (attempt t (call ∷ journal)) (exec now s).after =
-      subst (λ (steps : List Step). Plays before steps (exec now s).after) (sym (attempt-done journal t s a)) (plays_more before now (attempt t journal) s a h.plays same) in
+      subst (λ (steps : List RanStmt). Plays before steps (exec now s).after) (sym (attempt-done journal t s a)) (plays_more before now (attempt t journal) s a h.plays same) in
       let alone : (u : ℕ) → IsRunning u (call ∷ journal) → u ≡ t = λ u r.
       elim (running_after_done journal t s a u r) [ inl e ↦ e | inr ran ↦ h.alone u ran ] in
       record {
@@ -167,12 +168,12 @@ module _ (start : Database) (journal : Journal) where
   }
 
 -- whose attempt is emptied, or was empty, doesn't run
-stays_stopped : (b : Bool) (steps : List Step) → not (is_empty steps) ≡ false → not (is_empty (cond b [] steps)) ≡ false
+stays_stopped : (b : Bool) (steps : List RanStmt) → not (is_empty steps) ≡ false → not (is_empty (cond b [] steps)) ≡ false
 stays_stopped true steps h = refl
 stays_stopped false steps h = h
 
 -- who runs after another's end ran before
-ran_before : (b : Bool) (steps : List Step) → IsTrue (not (is_empty (cond b [] steps))) → IsTrue (not (is_empty steps))
+ran_before : (b : Bool) (steps : List RanStmt) → IsTrue (not (is_empty (cond b [] steps))) → IsTrue (not (is_empty steps))
 ran_before true steps h = cc
 ran_before false steps h = h
 
@@ -194,7 +195,7 @@ module _ (start : Database) (journal : Journal) where
 
   -- a transaction that has no attempt commits nothing
   commit_of_none : (before : Database) (t : ℕ) → before ≡ base start journal → attempt t journal ≡ [] → before ≡ (play (base start journal) (statements (attempt t journal))).after
-  commit_of_none before t e empty = e ∙ ap (λ (steps : List Step). (play (base start journal) (statements steps)).after) (sym empty)
+  commit_of_none before t e empty = e ∙ ap (λ (steps : List RanStmt). (play (base start journal) (statements steps)).after) (sym empty)
 
   pub free_commit : (rows : Database) (n t : ℕ) → IsFree start journal rows n → IsFree start (Committed t end.Done ∷ journal) rows (min (n + 1) (2 ^ 64 - 1))
   free_commit rows n t h =
@@ -209,7 +210,7 @@ module _ (start : Database) (journal : Journal) where
       → is_running u (call ∷ journal) ≡ false
   none_left t u call alone empty next = elim (cases_eq u t) [
     | inl same ↦ subst (λ (v : ℕ). is_running v (call ∷ journal) ≡ false) (sym same) (stopped_by (call ∷ journal) t empty)
-    | inr differ ↦ (ap (λ (steps : List Step). not (is_empty steps)) next ∙ stays_stopped (u == t) (attempt u journal) (others_idle journal t u alone differ))
+    | inr differ ↦ (ap (λ (steps : List RanStmt). not (is_empty steps)) next ∙ stays_stopped (u == t) (attempt u journal) (others_idle journal t u alone differ))
   ]
 
   -- the holder commits
@@ -231,11 +232,11 @@ module _ (start : Database) (journal : Journal) where
         let call = Committed u end.Done in
         let same : attempt t (call ∷ journal) ≡ attempt t journal = attempt-committed_other journal u t differ in
         let alone : (v : ℕ) → IsRunning v (call ∷ journal) → v ≡ t = λ v r. h.alone v (ran_before (v == u) (attempt v journal) r) in
-        let plays : Plays before (attempt t (call ∷ journal)) now = subst (λ (steps : List Step). Plays before steps now) (sym same) h.plays in
+        let plays : Plays before (attempt t (call ∷ journal)) now = subst (λ (steps : List RanStmt). Plays before steps now) (sym same) h.plays in
         let none = idle journal u (others_idle journal t u h.alone (λ e. differ (sym e))) in
         record {
           keeps = commit_keeps before before n u (commit_of_none before u h.keeps.base none) h.keeps (λ on. held_order start (call ∷ journal) now before t on alone plays);
-          runs = subst (λ (steps : List Step). IsTrue (not (is_empty steps))) (sym same) h.runs;
+          runs = subst (λ (steps : List RanStmt). IsTrue (not (is_empty steps))) (sym same) h.runs;
           alone = alone;
           waits = no_wait_more journal t call (other_txn t u _ _ differ) h.waits;
           plays = plays;
@@ -246,10 +247,10 @@ module _ (start : Database) (journal : Journal) where
         let call = RolledBack u end.Done in
         let same : attempt t (call ∷ journal) ≡ attempt t journal = attempt-rolled_back_other journal u t differ in
         let alone : (v : ℕ) → IsRunning v (call ∷ journal) → v ≡ t = λ v r. h.alone v (ran_before (v == u) (attempt v journal) r) in
-        let plays : Plays before (attempt t (call ∷ journal)) now = subst (λ (steps : List Step). Plays before steps now) (sym same) h.plays in
+        let plays : Plays before (attempt t (call ∷ journal)) now = subst (λ (steps : List RanStmt). Plays before steps now) (sym same) h.plays in
         record {
           keeps = keeps_on start journal call before n refl h.keeps tt tt (λ on. held_order start (call ∷ journal) now before t on alone plays);
-          runs = subst (λ (steps : List Step). IsTrue (not (is_empty steps))) (sym same) h.runs;
+          runs = subst (λ (steps : List RanStmt). IsTrue (not (is_empty steps))) (sym same) h.runs;
           alone = alone;
           waits = no_wait_more journal t call (other_txn t u _ _ differ) h.waits;
           plays = plays;

@@ -1,14 +1,15 @@
--- What an engine with one lock stands for.
+-- Not to be believed, but for `one_lock`: what the engine's own value stands for, which mirrors its code.
 use Rattle.std.specs.Prelude.{◌≡◌, ℕ, Bool, true, false, ◌==◌, if◌then◌else◌, Option, Some, None, List, []}
 use Rattle.std.specs.List.{AllZip}
 use Rattle.hr_rel.specs.declared.stmt.Stmt.{Stmt}
 use Rattle.hr_rel.specs.Database.{Database}
-use Rattle.hr_rel.specs.Serial.{play}
-use Rattle.hr_rel.specs.SameAnswer.{SameAnswer}
+use Rattle.hr_meaning.specs.Serial.{play}
+use Rattle.hr_meaning.specs.SameAnswer.{SameAnswer}
 use Rattle.hr_engine.specs.Journal.{Journal}
-use Rattle.hr_engine.specs.Attempts.{Step, attempt, statements, answers, IsRunning, is_running}
+use Rattle.hr_engine.specs.Attempts.{RanStmt, attempt, statements, answers, IsRunning, is_running}
 use Rattle.hr_engine.specs.Waits.{wait}
-use Rattle.hr_engine.specs.Base.{settled, count, base as counted_base, shown}
+use Rattle.hr_engine.specs.Base.{settled, count, base as counted_base}
+use Rattle.hr_base.specs.Counters.{shown}
 use Rattle.hr_engine.specs.Rigorous.{Rigorous}
 use Rattle.hr_engine.specs.Exact.{Exact}
 use Rattle.hr_engine.specs.Backend.{IsLegal}
@@ -35,7 +36,7 @@ pub record IsFree (start : Database) (journal : Journal) (rows : Database) (comm
   pub stopped : (t : ℕ) → is_running t journal ≡ false
 
 -- an attempt played on a database leaves this one, and answers what it was answered
-pub record Plays (before : Database) (steps : List Step) (now : Database) : Type 0 where
+pub record Plays (before : Database) (steps : List RanStmt) (now : Database) : Type 0 where
   pub rows : now ≡ (play before (statements steps)).after
   pub answered : AllZip SameAnswer (play before (statements steps)).answers (answers steps)
 

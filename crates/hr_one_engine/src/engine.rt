@@ -1,5 +1,5 @@
 ghost use Rattle.std.specs.Prelude.{◌≡◌, ◌⊎◌, ℕ, ◌∷◌, [], true, false, refl, length, IfOk, IfSome, Some, None, option_map};
-ghost use Rattle.hr_rel.specs.SameAnswer.{SameAnswer};
+ghost use Rattle.hr_meaning.specs.SameAnswer.{SameAnswer};
 ghost use Rattle.hr_answer.specs.Canonical.{IsCanonical};
 ghost use Rattle.hr_engine.specs.declared.reply.RunReply.TheVariants as reply;
 ghost use Rattle.hr_engine.specs.Journal.{Journal, Ran};

@@ -9,9 +9,10 @@ use Rattle.hr_rel.specs.declared.stmt.InsertStmt.{InsertStmt}
 use Rattle.hr_rel.specs.declared.stmt.SelectStmt.{SelectStmt}
 use Rattle.hr_rel.specs.declared.point.PointQuery.{PointQuery}
 use Rattle.hr_rel.specs.Database.{Database, columns_of, rows_of}
-use Rattle.hr_rel.specs.Insert.{inserted}
+use Rattle.hr_meaning.specs.Insert.{inserted}
 use Rattle.hr_rel.specs.Point.{point_of}
-use Rattle.hr_rel.specs.Exec.{exec, meaning, failed, insert_fits, point_fits, insert_outcome, select_outcome}
+use Rattle.hr_meaning.specs.Exec.{exec, meaning, failed, insert_outcome, select_outcome}
+use Rattle.hr_rel.specs.Fit.{insert_fits, point_fits}
 
 pub exec_insert : (db : Database) (s : InsertStmt) (table : List (List Value)) (outcome : Result (List (List Value)) RunError) → insert_fits db.catalog s ≡ true
     → rows_of db s.table ≡ table → outcome ≡ inserted (columns_of db.catalog s.table) table s.rows → exec db (stmt.Insert s) ≡ insert_outcome db s outcome

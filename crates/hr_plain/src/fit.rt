@@ -3,9 +3,10 @@ ghost use Rattle.std.specs.Prelude.{◌≡◌, ◌<◌, ◌≤◌, length};
 ghost use Rattle.std.specs.Bool.{OnTrue};
 ghost use Rattle.std.specs.List.{list_all, zip};
 ghost use Rattle.hr_rel.specs.Database.{columns_of};
-ghost use Rattle.hr_rel.specs.Exec.{is_of_kind, row_fits, insert_fits, point_fits};
+ghost use Rattle.hr_rel.specs.Fit.{is_of_kind, row_fits, insert_fits, point_fits};
 
-use hr_rel::{Catalog, ColKind, ColumnDef, InsertStmt, MAX_COLUMNS, PointQuery, Row, Value};
+use hr_base::limits::MAX_COLUMNS;
+use hr_rel::{Catalog, ColKind, ColumnDef, InsertStmt, PointQuery, Row, Value};
 
 /// The columns of the table with this number; none where there is no such table.
 pub fn columns_of(catalog: &Catalog, table: u32) -> &[ColumnDef]

@@ -1,10 +1,11 @@
 //! INSERT: one row after another into a copy of the table.
 ghost use Rattle.std.specs.Prelude.{◌≡◌, ◌<◌, ◌≤◌, IfOk, IfSome, OnOk, length, position};
 ghost use Rattle.std.specs.List.{list_any, zip};
-ghost use Rattle.hr_rel.specs.Insert.{has_key, refuses, null_refused, duplicate_key, insert_error, comes_after, place_of, put_row, inserted};
+ghost use Rattle.hr_meaning.specs.Insert.{has_key, refuses, null_refused, duplicate_key, insert_error, comes_after, place_for, put_row, inserted};
 
 use crate::point::{has_key, key_of};
-use hr_rel::{ColumnDef, MAX_COLUMNS, Row, RunError, Table, TryCopy, Value};
+use hr_base::limits::MAX_COLUMNS;
+use hr_rel::{ColumnDef, Row, RunError, Table, TryCopy, Value};
 use std::alloc::{AllocError, Global};
 
 /// The table with the rows in it too, or the first error of a row. The old table stands as it is.
@@ -83,15 +84,15 @@ fn put_row(table: &mut Table, row: Row) -> Result<(), AllocError>
     ensures { OnOk result (table.new ≡ put_row table.old row) }
 {
     let at = match key_of(&row) {
-        Some(key) => place_of(table.as_slice(), key),
+        Some(key) => place_for(table.as_slice(), key),
         None => table.len(),
     };
     table.insert(at, row)
 }
 
 // The place of a new key: before the first greater one, or at the end.
-fn place_of(table: &[Row], key: i64) -> usize
-    ensures place { result ≡ place_of table.now key }
+fn place_for(table: &[Row], key: i64) -> usize
+    ensures place { result ≡ place_for table.now key }
     ensures within { result ≤ length table.now }
 {
     match first_after(table, key) {

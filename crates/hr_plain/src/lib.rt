@@ -5,7 +5,5 @@ mod fit;
 mod insert;
 mod plain;
 mod point;
-#[cfg(test)]
-mod tests;
 
 pub use plain::Plain;

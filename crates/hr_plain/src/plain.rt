@@ -1,6 +1,7 @@
 ghost use Rattle.std.specs.Prelude.{◌≡◌, ◌<◌, [], length, slice_get, unwrap_or, IfOk, OnOk, OnErr};
 ghost use Rattle.hr_rel.specs.Database.{empty_database};
-ghost use Rattle.hr_rel.specs.Exec.{exec, select_outcome, insert_outcome, fits};
+ghost use Rattle.hr_meaning.specs.Exec.{exec, select_outcome, insert_outcome};
+ghost use Rattle.hr_rel.specs.Fit.{fits};
 
 use crate::fit::{columns_of, insert_fits, point_fits};
 use crate::insert::inserted;

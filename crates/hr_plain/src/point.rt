@@ -1,7 +1,7 @@
 //! Point queries: the rows that have a key.
 ghost use Rattle.std.specs.Prelude.{◌≡◌, IfOk, map, filter, [], ◌∷◌};
 ghost use Rattle.hr_rel.specs.Database.{key_of, value_at};
-ghost use Rattle.hr_rel.specs.Insert.{has_key};
+ghost use Rattle.hr_meaning.specs.Insert.{has_key};
 
 use hr_rel::{PointQuery, Row, Seq, Table, TryCopy, Value};
 use std::alloc::{AllocError, Global};

@@ -8,7 +8,7 @@ use Rattle.hr_history.specs.declared.phase.Last.{Last}
 use Rattle.hr_history.specs.declared.phase.Last.TheVariants as last
 use Rattle.hr_history.specs.declared.phase.Fresh.{Fresh}
 use Rattle.hr_history.specs.Given as given
-use Rattle.hr_history.specs.Lists.{last_of}
+use Rattle.hr_base.specs.Lists.{last_of}
 use Rattle.hr_history.specs.View as view
 use Rattle.hr_progress.specs.declared.view.View.TheInside.{Inside}
 use Rattle.hr_progress.specs.declared.view.TxnState.{TxnState}

@@ -3,7 +3,7 @@ use Rattle.std.proofs.Common.{◌≡◌, ℕ, ◌-◌, ◌≤◌, List, ◌++◌
 use Rattle.std.specs.List.{list_all}
 use Rattle.std.proofs.lemmas.List.{drop-replicate, length-replicate}
 use Rattle.std.proofs.Math.Seq.{drop-append_seam, take-append_seam}
-use Rattle.hr_rel.specs.Printable.{is_printable}
+use Rattle.hr_base.specs.Bytes.{is_printable}
 use Rattle.hr_rel.specs.Name.{IsPadded}
 
 pub front_padded : (text old : List ℕ) (size : ℕ) → length text ≤ size → size ≡ 64 → old ≡ replicate size 0 → list_all is_printable text ≡ true

@@ -2,8 +2,4 @@ pub mod Printable
 pub mod Name
 pub mod Database
 pub mod Point
-pub mod Insert
-pub mod Exec
-pub mod Serial
-pub mod SameAnswer
-pub mod Worked
+pub mod Fit

@@ -1,8 +1,8 @@
--- How a text lies in its 64 bytes.
+-- Not to be believed: how a text lies in its 64 bytes, which mirrors the code.
 use Rattle.std.specs.Prelude.{◌≡◌, ℕ, ◌-◌, ◌≤◌, List, ◌++◌, length, take, drop, replicate, true}
 use Rattle.std.specs.List.{list_all}
 use Rattle.std.proofs.Common.{take-append-drop, length-take-le, arith, ap, ◌∙◌, sym}
-use Rattle.hr_rel.specs.Printable.{is_printable}
+use Rattle.hr_base.specs.Bytes.{is_printable}
 use Rattle.hr_rel.specs.declared.name.Name.TheInside.{Inside}
 
 -- 64 bytes: the text, and behind it zeros alone

@@ -1,6 +1,7 @@
 -- Which SELECT is a point query.
-use Rattle.std.specs.Prelude.{ℕ, ℤ, Bool, true, false, ◌==◌, ◌&&◌, if◌then◌else◌, Option, Some, None, is_none, List, [], ◌∷◌}
+use Rattle.std.specs.Prelude.{ℕ, ℤ, Bool, true, false, ◌==◌, ◌&&◌, if◌then◌else◌, Option, Some, None, is_none}
 use Rattle.std.specs.Option.{option_and_then}
+use Rattle.hr_base.specs.Lists.{is_empty, only}
 use Rattle.hr_rel.specs.declared.value.Value.TheVariants as value
 use Rattle.hr_rel.specs.declared.expr.Op.{Op}
 use Rattle.hr_rel.specs.declared.expr.Op.TheVariants as op
@@ -12,11 +13,6 @@ use Rattle.hr_rel.specs.declared.stmt.Item.{Item}
 use Rattle.hr_rel.specs.declared.stmt.Item.TheVariants as item
 use Rattle.hr_rel.specs.declared.stmt.SelectStmt.{SelectStmt}
 use Rattle.hr_rel.specs.declared.point.PointQuery.{PointQuery}
-
--- the one element of a list
-abbrev pub only : {X : Type 0} → List X → Option X
-only (x ∷ []) = Some x
-only _ = None
 
 -- the column that an expression is
 abbrev pub column_in : expr.Expr → Option ℕ
@@ -52,12 +48,8 @@ abbrev pub query_of : Option ℕ → Option ℕ → Option ℤ → Option PointQ
 query_of (Some t) (Some c) (Some n) = Some record { table = t; column = c; key = n }
 query_of _ _ _ = None
 
-abbrev pub is_nothing : {X : Type 0} → List X → Bool
-is_nothing [] = true
-is_nothing _ = false
-
 -- the point query that a SELECT is: one table, one plain column of it, the condition `key = n`, and no grouping
 abbrev pub point_of : SelectStmt → Option PointQuery
-point_of s = if is_none s.on && is_nothing s.groups
+point_of s = if is_none s.on && is_empty s.groups
     then query_of (only s.tables) (option_and_then column_of (only s.items)) (option_and_then key_in s.filter)
     else None

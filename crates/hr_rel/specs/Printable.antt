@@ -1,10 +1,8 @@
-use Rattle.std.specs.Prelude.{◌≡◌, ℕ, Bool, true, ◌≤◌, ◌&&◌, nat_le, List, length}
+use Rattle.std.specs.Prelude.{◌≡◌, ℕ, true, ◌≤◌, List, length}
 use Rattle.std.specs.List.{list_all}
+use Rattle.hr_base.specs.Bytes.{is_printable}
+use Rattle.hr_base.specs.declared.limits.TheConstants.{MAX_TEXT_BYTES}
 
--- a byte of printable ASCII, the blank among them
-abbrev pub is_printable : ℕ → Bool
-is_printable b = nat_le 32 b && nat_le b 126
-
--- bytes that a text value may have: at most 64, all printable
+-- bytes that a text value may have: at most 64 of them, all printable
 abbrev pub IsText : List ℕ → Type 0
-IsText bytes = (length bytes ≤ 64) × (list_all is_printable bytes ≡ true)
+IsText bytes = (length bytes ≤ MAX_TEXT_BYTES) × (list_all is_printable bytes ≡ true)

@@ -1,16 +1,13 @@
 use crate::{Name, Seq, TryCopy};
 use std::alloc::{AllocError, Global};
 
-/// How many columns a table has at most.
-pub const MAX_COLUMNS: usize = 8;
-
 /// The tables of a database. No statement changes it.
 #[derive(Debug, Drop)]
 pub struct Catalog {
     pub tables: Seq<TableDef>,
 }
 
-/// A table: its name and its columns. Column 0 is the key.
+/// A table: its name and its columns, of which there are at most [`MAX_COLUMNS`](hr_base::limits::MAX_COLUMNS). Column 0 is the key.
 #[derive(Debug, Drop)]
 pub struct TableDef {
     pub name: Name,

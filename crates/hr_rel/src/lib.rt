@@ -1,5 +1,5 @@
-//! Relations as the SQL profile of this project sees them: values, rows, catalogs, bound statements and answers,
-//! and in `specs/` what a statement, a transaction and a serial run mean on a database.
+//! Relations as the SQL profile of this project sees them: values, rows, catalogs, bound statements and answers, and in
+//! `specs/` what a database is, and when a statement fits one. What statements mean stands in `hr_meaning`.
 #![tactic(auto)]
 
 mod answer;
@@ -11,13 +11,10 @@ mod order;
 mod point;
 mod seq;
 mod stmt;
-#[cfg(test)]
-mod tests;
 mod value;
-pub mod worked;
 
 pub use answer::{Answer, RunError};
-pub use catalog::{Catalog, ColKind, ColumnDef, MAX_COLUMNS, TableDef};
+pub use catalog::{Catalog, ColKind, ColumnDef, TableDef};
 pub use copy::TryCopy;
 pub use expr::{ColRef, Expr, Op, Operand, Pred};
 pub use name::Name;

@@ -3,20 +3,21 @@ ghost use Rattle.std.specs.List.{list_all};
 ghost use Rattle.std.specs.Ordering.{nat_cmp, as_partial_cmp};
 ghost use Rattle.std.specs.Cmp.{partial_equiv_from_equiv};
 ghost use Rattle.std.specs.Cmp.Lexicographic.{pointwise, nat_list_eq_equiv, slice_cmp, texts_po, texts_ties, nat_list_cmp_total};
-ghost use Rattle.hr_rel.specs.Printable.{is_printable, IsText};
+ghost use Rattle.hr_base.specs.Bytes.{is_printable};
+ghost use Rattle.hr_rel.specs.Printable.{IsText};
 
+use hr_base::is_printable;
+use hr_base::limits::MAX_TEXT_BYTES;
 use std::cmp::Ordering;
 use std::marker::Model;
 use std::{fmt, str};
 
-/// How many bytes a text holds at most.
-pub const NAME_LIMIT: usize = 64;
-
-/// A text of at most 64 bytes, each printable ASCII (0x20 to 0x7E). It lies in the value itself, so it is `Copy`.
+/// A text of at most 64 bytes, each printable ASCII (0x20 to 0x7E). It serves as the text value of a row, and as the name of
+/// a table or a column, where fewer bytes are allowed. It lies in the value itself, so it is `Copy`.
 /// Texts are ordered and equal by their bytes.
 #[derive(Clone, Copy)]
 pub struct Name {
-    bytes: [u8; 64],
+    bytes: [u8; MAX_TEXT_BYTES],
     len: usize,
 }
 
@@ -43,10 +44,10 @@ impl Name {
         ensures text { IsSome result ↔ IsText bytes.now }
         ensures bytes { IfSome result (λ name. name ≡ bytes.now) }
     {
-        if bytes.len() > NAME_LIMIT || !all_printable(bytes) {
+        if bytes.len() > MAX_TEXT_BYTES || !all_printable(bytes) {
             return None;
         }
-        let mut padded = [0u8; 64];
+        let mut padded = [0u8; MAX_TEXT_BYTES];
         copy_front(&mut padded, bytes);
         Some(Name {
             bytes: padded,
@@ -66,7 +67,7 @@ impl Name {
 fn all_printable(bytes: &[u8]) -> bool
     ensures { result ≡ list_all is_printable bytes.now }
 {
-    bytes.iter().all(|b| (0x20..=0x7E).contains(b))
+    bytes.iter().all(|b| is_printable(*b))
 }
 
 // Writes `from` over the front of `to`.

@@ -1,7 +1,7 @@
 -- One item more of a text that is written item by item.
 use Rattle.std.proofs.Common.{◌≡◌, ℕ, zero, suc, ◌+◌, ◌<◌, List, [], ◌∷◌, ◌++◌, take, length, get_or, ap, arith, sym, ◌∙◌, append_assoc, add-one}
 use Rattle.std.proofs.lemmas.List.{append-nil}
-use Rattle.hr_report.specs.Texts.{Text, each_from}
+use Rattle.hr_base.specs.Texts.{Text, each_from}
 
 each_from-take : {X : Type 0} (text : ℕ → X → Text) (n : ℕ) (xs : List X) (i : ℕ) (x : X) → i < length xs → x ≡ get_or xs i x
     → each_from text n (take (suc i) xs) ≡ each_from text n (take i xs) ++ text (n + i) x

@@ -1,5 +1,5 @@
 -- How values, rows and answers are written.
-use Rattle.std.specs.Prelude.{ℕ, ◌==◌, if◌then◌else◌, List, [], ◌∷◌, ◌++◌, length, codes}
+use Rattle.std.specs.Prelude.{List, [], ◌∷◌, ◌++◌, length, codes}
 use Rattle.std.specs.List.{flat_map}
 use Rattle.std.specs.Fmt.{decimal, signed_decimal}
 use Rattle.hr_rel.specs.declared.value.Value.{Value}
@@ -8,17 +8,13 @@ use Rattle.hr_rel.specs.declared.answer.Answer.{Answer}
 use Rattle.hr_rel.specs.declared.answer.Answer.TheVariants.{Rows, Count, Failed}
 use Rattle.hr_rel.specs.declared.answer.RunError.{RunError}
 use Rattle.hr_rel.specs.declared.answer.RunError.TheVariants.{DuplicateKey, Overflow, NullRefused, TooManyRows, Unfit}
-use Rattle.hr_report.specs.Texts.{Text, line}
-
--- a byte within quotes: a quote is doubled
-abbrev pub quoted_byte : ℕ → Text
-quoted_byte b = if b == 39 then 39 ∷ 39 ∷ [] else b ∷ []
+use Rattle.hr_base.specs.Texts.{Text, line, doubled}
 
 -- a value as an SQL literal
 abbrev pub value_text : Value → Text
 value_text value.Null = codes "NULL"
 value_text (value.Int n) = signed_decimal n
-value_text (value.Text bytes) = codes "'" ++ flat_map quoted_byte bytes ++ codes "'"
+value_text (value.Text bytes) = codes "'" ++ doubled bytes ++ codes "'"
 
 -- the values of a row behind its first
 abbrev pub more_values : List Value → Text

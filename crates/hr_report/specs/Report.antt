@@ -9,7 +9,7 @@ use Rattle.hr_rel.specs.declared.catalog.TableDef.{TableDef}
 use Rattle.hr_scenario.specs.declared.scenario.Scenario.{Scenario}
 use Rattle.hr_scenario.specs.declared.scenario.EngineKind.{EngineKind}
 use Rattle.hr_scenario.specs.Form.{kind_word}
-use Rattle.hr_report.specs.Texts.{Text, line, each_from}
+use Rattle.hr_base.specs.Texts.{Text, line, each_from}
 use Rattle.hr_report.specs.Answers.{answer_text, rows_text}
 
 -- the answer of a transaction's statement with this number

@@ -1,8 +1,9 @@
 //! How values, rows and answers are written, each at the end of a text.
 ghost use Rattle.std.specs.Prelude.{◌≡◌, ◌++◌, ◌<◌, true, OnOk, string_bytes};
 ghost use Rattle.std.specs.List.{flat_map, list_all};
-ghost use Rattle.hr_rel.specs.Printable.{is_printable};
-ghost use Rattle.hr_report.specs.Answers.{quoted_byte, value_text, more_values, values_text, row_text, rows_text, error_text, answer_text};
+ghost use Rattle.hr_base.specs.Bytes.{is_printable};
+ghost use Rattle.hr_base.specs.Texts.{quoted_byte, doubled};
+ghost use Rattle.hr_report.specs.Answers.{value_text, more_values, values_text, row_text, rows_text, error_text, answer_text};
 
 use hr_rel::{Answer, Row, RunError, Value};
 use std::alloc::AllocError;
@@ -87,7 +88,7 @@ fn push_error(out: &mut String, error: &RunError) -> Result<(), AllocError>
 // Writes the bytes of a text value, with quotes doubled.
 fn push_quoted(out: &mut String, bytes: &[u8]) -> Result<(), AllocError>
     requires { list_all is_printable bytes.now ≡ true }
-    ensures { OnOk result (string_bytes out.new ≡ string_bytes out.old ++ flat_map quoted_byte bytes.now) }
+    ensures { OnOk result (string_bytes out.new ≡ string_bytes out.old ++ doubled bytes.now) }
 {
     'bytes: for byte in bytes {
         push_byte(out, *byte)?;

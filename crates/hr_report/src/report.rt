@@ -1,9 +1,9 @@
 //! The report of a run in which one session's blocks have all committed, in their order.
 ghost use Rattle.std.specs.Prelude.{◌≡◌, ◌++◌, ◌+◌, ◌<◌, ◌^◌, [], true, length, IfOk, OnOk, string_bytes};
 ghost use Rattle.std.specs.List.{flat_map, list_all, zip};
-ghost use Rattle.hr_rel.specs.Printable.{is_printable};
+ghost use Rattle.hr_base.specs.Bytes.{is_printable};
 ghost use Rattle.hr_scenario.specs.Form.{kind_word};
-ghost use Rattle.hr_report.specs.Texts.{each_from};
+ghost use Rattle.hr_base.specs.Texts.{each_from};
 ghost use Rattle.hr_report.specs.Report.{numbered_answer, commit_text, block_text, role_text, table_text, replica_text, report_text};
 
 use crate::answer::{push_answer, push_rows};

@@ -2,7 +2,7 @@
 use Rattle.std.proofs.Common.{◌≡◌, ℕ, ◌+◌, ◌*◌, ◌≤◌, Bool, true, false, List, [], ◌∷◌, ◌++◌, length, Option, Some, None, Result, Ok, Err, refl, sym, ap, subst, arith, lit≤}
 use Rattle.std.specs.Prelude.{codes}
 use Rattle.std.specs.Str.{bytes_eq}
-use Rattle.hr_scenario.specs.Lines.{Text}
+use Rattle.hr_base.specs.Texts.{Text}
 use Rattle.hr_scenario.specs.Form.{IsForm, f_line, form_lines, kinds_line, table_line}
 use Rattle.hr_scenario.specs.Reading.{f_part, f_read, fixed, form_made, form_read, goes_on, is_commit, kinds_part, kinds_read, later, line_then, script_read, session_part, table_part, table_read}
 use Rattle.hr_scenario.specs.declared.scenario.EngineKind.{EngineKind}

@@ -2,7 +2,7 @@
 use Rattle.std.proofs.Common.{◌≡◌, ℕ, ◌+◌, ◌*◌, ◌-◌, ◌<◌, inl, suc, false, List, ◌∷◌, ◌++◌, length, take, replicate, Result, Ok, Err, refl, sym, ap, subst, arith, lit<, zero-le}
 use Rattle.std.specs.Prelude.{codes}
 use Rattle.std.proofs.lemmas.List.{length-replicate}
-use Rattle.hr_scenario.specs.Lines.{Text}
+use Rattle.hr_base.specs.Texts.{Text}
 use Rattle.hr_scenario.specs.Form.{IsTable, f_line, kinds_line, table_line}
 use Rattle.hr_scenario.specs.Input.{IsFirstBad, IsFront}
 use Rattle.hr_scenario.specs.Reading.{f_part, f_read, fixed, form_made, form_read, kinds_part, kinds_read, later, script_read, session_part, table_part, table_read}

@@ -2,7 +2,8 @@
 use Rattle.std.proofs.Common.{◌≡◌, ℕ, ◌+◌, ◌*◌, false, List, [], ◌∷◌, Option, Some, None, Result, Ok, Err, suc, refl, sym, ap, ◌∙◌, subst, zero-add, arith}
 use Rattle.std.specs.Prelude.{codes}
 use Rattle.std.specs.Option.{option_and_then}
-use Rattle.hr_scenario.specs.Lines.{Text, first_line, other_lines}
+use Rattle.hr_base.specs.Texts.{Text}
+use Rattle.hr_scenario.specs.Lines.{first_line, other_lines}
 use Rattle.hr_scenario.specs.Reading.{IsFailure, f_part, f_read, fixed, form_made, form_read, kinds_part, kinds_read, later, line_then, script_read, session_part, table_part, table_read}
 use Rattle.hr_scenario.specs.declared.error.InputError.{InputError}
 use Rattle.hr_scenario.specs.declared.error.InputKind.TheVariants.{Unbuilt}

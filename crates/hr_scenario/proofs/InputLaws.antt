@@ -1,7 +1,8 @@
 -- The definition of the input: what the reader gives is what it says, and it says one thing alone.
 use Rattle.std.proofs.Common.{◌≡◌, ℕ, ◌-◌, ◌^◌, ◌<◌, ◌≤◌, inl, inr, List, ◌++◌, length, take, drop, append_assoc, Ok, Err, refl, sym, ap, ◌∙◌, subst, arith}
 use Rattle.std.proofs.lemmas.List.{take-append-drop, take-take}
-use Rattle.hr_scenario.specs.Lines.{Text, lines_of}
+use Rattle.hr_base.specs.Texts.{Text}
+use Rattle.hr_scenario.specs.Lines.{lines_of}
 use Rattle.hr_scenario.specs.Meaning.{scenario_of}
 use Rattle.hr_scenario.specs.Input.{GivesRefusal, GivesScenario, IsCause, IsFirstBad, IsFront, IsRefused, IsScenario}
 use Rattle.hr_scenario.specs.Reading.{IsFailure, form_read}

@@ -1,7 +1,7 @@
 -- The loop over the engines' words: those read so far, in front of those of the rest.
 use Rattle.std.proofs.Common.{◌≡◌, ℕ, suc, List, [], ◌∷◌, ◌++◌, Option, Some, None, refl, sym, ap, append_assoc}
 use Rattle.std.specs.Option.{option_map}
-use Rattle.hr_scenario.specs.Lines.{Text}
+use Rattle.hr_base.specs.Texts.{Text}
 use Rattle.hr_scenario.specs.Reading.{kind_read, with_kinds, words_read}
 use Rattle.hr_scenario.specs.declared.scenario.EngineKind.{EngineKind}
 

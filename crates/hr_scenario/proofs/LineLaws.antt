@@ -5,9 +5,9 @@ use Rattle.std.specs.Fmt.{decimal, signed_decimal}
 use Rattle.std.specs.List.{flat_map}
 use Rattle.std.specs.Option.{option_and_then, option_map, option_or}
 use Rattle.std.proofs.lemmas.Bool.Decides.{nat_tests}
-use Rattle.hr_scenario.specs.Lines.{Text}
+use Rattle.hr_base.specs.Texts.{Text}
 use Rattle.hr_scenario.specs.Form.{f_line, is_i64, kind_word, kinds_line}
-use Rattle.hr_scenario.specs.Reading.{f_read, kind_read, kinds_read, number_read, strip, up_to_three, words_read}
+use Rattle.hr_scenario.specs.Reading.{f_read, kind_read, kinds_read, number_read, strip, up_to_max, words_read}
 use Rattle.hr_scenario.specs.declared.scenario.EngineKind.{EngineKind}
 use Rattle.hr_scenario.specs.declared.scenario.EngineKind.TheVariants.{ByTable, ByRange}
 use Rattle.hr_scenario.proofs.TextLaws.{guard_some, number_read-number, number_read-takes, strip-front, strip-takes}
@@ -19,11 +19,11 @@ bind_some f (Some x) y h = (x, refl, h)
 
 -- `f N`
 
-up_to_three-takes : (z : ℤ) (f : ℕ) → up_to_three z ≡ Some f → (z ≡ pos f) × (f ≤ 3)
-up_to_three-takes (pos n) f h =
+up_to_max-takes : (z : ℤ) (f : ℕ) → up_to_max z ≡ Some f → (z ≡ pos f) × (f ≤ 3)
+up_to_max-takes (pos n) f h =
     let both = guard_some (nat_le n 3) n f h in
     (ap (λ (k : ℕ). pos k) both.1, subst (λ (k : ℕ). k ≤ 3) both.1 (grind (arith, nat_tests)))
-up_to_three-takes (negsuc n) f h = cc
+up_to_max-takes (negsuc n) f h = cc
 
 pub f_read-line : (f : ℕ) → f ≤ 3 → f_read (f_line f) ≡ Some f
 unfolding f_read
@@ -35,11 +35,11 @@ f_read-line f few =
 pub f_read-takes : (line : Text) (f : ℕ) → f_read line ≡ Some f → (f ≤ 3) × (line ≡ f_line f)
 unfolding f_read
 f_read-takes line f h =
-    let a = bind_some up_to_three (option_and_then number_read (strip (codes "f ") line)) f h in
+    let a = bind_some up_to_max (option_and_then number_read (strip (codes "f ") line)) f h in
     let b = bind_some number_read (strip (codes "f ") line) a.0 a.1 in
     let front = strip-takes (codes "f ") line b.0 b.1 in
     let number = number_read-takes b.0 a.0 b.2 in
-    let few = up_to_three-takes a.0 f a.2 in
+    let few = up_to_max-takes a.0 f a.2 in
     (few.1, front ∙ ap (λ (text : Text). codes "f " ++ text) (number.1 ∙ ap signed_decimal few.0))
 
 -- `replicas KIND ..`

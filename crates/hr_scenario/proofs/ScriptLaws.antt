@@ -3,7 +3,7 @@ use Rattle.std.proofs.Common.{◌≡◌, ℕ, ◌+◌, ◌≤◌, inl, inr, Bool
 use Rattle.std.specs.Prelude.{codes}
 use Rattle.std.specs.List.{AllByRecursion}
 use Rattle.std.specs.Str.{bytes_eq}
-use Rattle.hr_scenario.specs.Lines.{Text}
+use Rattle.hr_base.specs.Texts.{Text}
 use Rattle.hr_scenario.specs.Form.{IsStep, IsTable, step_line}
 use Rattle.hr_scenario.specs.Reading.{goes_on, is_commit, later, no_more, script_read, step_read, with_step}
 use Rattle.hr_scenario.specs.declared.form.TableLine.{TableLine}

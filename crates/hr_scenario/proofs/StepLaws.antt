@@ -7,7 +7,7 @@ use Rattle.std.specs.List.{prefix_len}
 use Rattle.std.specs.Option.{option_and_then, option_or}
 use Rattle.std.specs.Str.{bytes_eq}
 use Rattle.std.proofs.lemmas.Bool.Decides.{nat_tests}
-use Rattle.hr_scenario.specs.Lines.{Text, joined}
+use Rattle.hr_base.specs.Texts.{Text, joined}
 use Rattle.hr_scenario.specs.Form.{IsStep, IsTable, column_name, is_i64, is_name, step_line, table_line}
 use Rattle.hr_scenario.specs.Reading.{column_read, insert_read, is_commit, is_number_byte, name_read, number_read, past_run, row_read, run_of, select_read, step_read, strip, table_read}
 use Rattle.hr_scenario.specs.declared.form.TableLine.{TableLine}

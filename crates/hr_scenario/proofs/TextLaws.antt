@@ -11,7 +11,7 @@ use Rattle.std.proofs.lemmas.Bool.Decides.{nat_tests}
 use Rattle.std.proofs.lemmas.Fmt.{decimal_is_IsNumeral}
 use Rattle.std.proofs.lemmas.List.{take-append-drop}
 use Rattle.std.proofs.lemmas.Str.Parse.{digit_from_value}
-use Rattle.hr_scenario.specs.Lines.{Text}
+use Rattle.hr_base.specs.Texts.{Text}
 use Rattle.hr_scenario.specs.Form.{is_i64, is_name}
 use Rattle.hr_scenario.specs.Reading.{is_number_byte, name_read, number_read, past_run, run_of, strip}
 use Rattle.hr_scenario.proofs.WordLemmas.{and_true, bytes_same, i64_small, number_read-some, same_bytes}

@@ -14,7 +14,8 @@ use Rattle.std.proofs.lemmas.Fmt.{IsAscii-signed, parse-signed_decimal}
 use Rattle.std.proofs.lemmas.Slice.Eq.{bytes_eq-Decides}
 use Rattle.std.proofs.lemmas.Str.{IsUtf8-from_ascii}
 use lib.Signed.{mag}
-use Rattle.hr_rel.specs.Printable.{is_printable, IsText}
+use Rattle.hr_base.specs.Bytes.{is_printable}
+use Rattle.hr_rel.specs.Printable.{IsText}
 use Rattle.hr_scenario.specs.Form.{is_i64, is_keyword, is_name}
 use Rattle.hr_scenario.specs.Reading.{name_read, number_read}
 

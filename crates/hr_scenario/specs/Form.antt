@@ -4,7 +4,8 @@ use Rattle.std.specs.Char.{is_ascii_lowercase}
 use Rattle.std.specs.Str.{bytes_eq}
 use Rattle.std.specs.List.{AllByRecursion, list_all, list_any, flat_map}
 use Rattle.std.specs.Fmt.{decimal, signed_decimal}
-use Rattle.hr_scenario.specs.Lines.{Text, joined}
+use Rattle.hr_base.specs.Texts.{Text, joined}
+use Rattle.hr_base.specs.declared.limits.TheConstants.{MAX_F, MAX_NAME_BYTES, MAX_SCRIPT_LINES}
 use Rattle.hr_scenario.specs.declared.scenario.EngineKind.{EngineKind}
 use Rattle.hr_scenario.specs.declared.scenario.EngineKind.TheVariants.{ByTable, ByRange}
 use Rattle.hr_scenario.specs.declared.form.Form.{Form}
@@ -61,7 +62,7 @@ is_keyword word = list_any (λ keyword. bytes_eq keyword word) keywords
 
 -- 1 to 32 small letters, and no keyword
 abbrev pub is_name : Text → Bool
-is_name word = nat_lt 0 (length word) && nat_le (length word) 32 && list_all is_ascii_lowercase word && not (is_keyword word)
+is_name word = nat_lt 0 (length word) && nat_le (length word) MAX_NAME_BYTES && list_all is_ascii_lowercase word && not (is_keyword word)
 
 -- the names are names, and the columns differ
 pub record IsTable (table : TableLine) : Type 0 where
@@ -84,12 +85,12 @@ IsStep Commit = Unit {0}
 -- 1 to 100 steps, the last of them COMMIT
 pub record IsScript (script : List Step) : Type 0 where
   pub steps : AllByRecursion IsStep script
-  pub few : length script ≤ 100
+  pub few : length script ≤ MAX_SCRIPT_LINES
   pub closed : (front : List Step) × (script ≡ front ++ Commit ∷ [])
 
 -- a scenario of this form: at most 3 wrong replicas, 2f+1 replicas, a table, and a script
 pub record IsForm (form : Form) : Type 0 where
-  pub wrong : form.f ≤ 3
+  pub wrong : form.f ≤ MAX_F
   pub replicas : length form.kinds ≡ 2 * form.f + 1
   pub table : IsTable form.table
   pub script : IsScript form.script

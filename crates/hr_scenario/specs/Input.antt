@@ -1,6 +1,8 @@
 -- The definition of the input: which bytes are which scenario, and why other bytes are none.
-use Rattle.std.specs.Prelude.{◌≡◌, ℕ, ◌+◌, ◌-◌, ◌^◌, ◌<◌, ◌≤◌, ◌⊎◌, List, ◌++◌, length, take, Result, Ok, Err, ⊤}
-use Rattle.hr_scenario.specs.Lines.{Text, lines_of}
+use Rattle.std.specs.Prelude.{◌≡◌, ℕ, ◌+◌, ◌-◌, ◌<◌, ◌≤◌, ◌⊎◌, List, ◌++◌, length, take, Result, Ok, Err, ⊤}
+use Rattle.hr_base.specs.Texts.{Text}
+use Rattle.hr_base.specs.declared.limits.TheConstants.{MAX_SCENARIO_BYTES}
+use Rattle.hr_scenario.specs.Lines.{lines_of}
 use Rattle.hr_scenario.specs.Form.{form_lines, IsForm}
 use Rattle.hr_scenario.specs.Meaning.{scenario_of}
 use Rattle.hr_scenario.specs.declared.scenario.Scenario.{Scenario}
@@ -13,7 +15,7 @@ use Rattle.hr_scenario.specs.declared.error.ReadError.TheVariants.{Refused, NoMe
 -- a scenario's bytes, at most 1 MiB, whose lines are those of a form, and what the form says
 pub record IsScenario (bytes : Text) (scenario : Scenario) : Type 0 where
   pub form : Form
-  pub small : length bytes ≤ 2 ^ 20
+  pub small : length bytes ≤ MAX_SCENARIO_BYTES
   pub sound : IsForm form
   pub lines : lines_of bytes ≡ form_lines form
   pub says : scenario ≡ scenario_of form
@@ -43,8 +45,8 @@ pub record IsFirstBad (lines : List Text) (line : ℕ) : Type 0 where
 -- why the bytes are refused: there are more than 1 MiB of them, or the first bad line
 abbrev pub IsRefused : Text → InputError → Type 0
 IsRefused bytes error =
-    ((2 ^ 20 < length bytes) × (error ≡ record { line = 0; kind = TooLong }))
-    ⊎ ((length bytes ≤ 2 ^ 20) × (error.kind ≡ Unbuilt) × IsFirstBad (lines_of bytes) error.line)
+    ((MAX_SCENARIO_BYTES < length bytes) × (error ≡ record { line = 0; kind = TooLong }))
+    ⊎ ((length bytes ≤ MAX_SCENARIO_BYTES) × (error.kind ≡ Unbuilt) × IsFirstBad (lines_of bytes) error.line)
 
 -- an error is a refusal that the definition gives, or want of memory
 abbrev pub IsCause : Text → ReadError → Type 0

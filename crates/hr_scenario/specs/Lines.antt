@@ -1,8 +1,5 @@
-use Rattle.std.specs.Prelude.{ℕ, List, [], ◌∷◌, ◌++◌, ◌==◌, if◌then◌else◌, Option, Some, None}
-
--- a text, or a line of one, as its bytes
-abbrev pub Text : Type 0
-Text = List ℕ
+use Rattle.std.specs.Prelude.{ℕ, List, [], ◌∷◌, ◌==◌, if◌then◌else◌, Option, Some, None}
+use Rattle.hr_base.specs.Texts.{Text}
 
 -- a byte in front of the first of some lines
 abbrev pub in_front : ℕ → List Text → List Text
@@ -14,11 +11,6 @@ in_front b (line ∷ lines) = (b ∷ line) ∷ lines
 abbrev pub lines_of : Text → List Text
 lines_of [] = []
 lines_of (b ∷ text) = if b == 10 then [] ∷ lines_of text else in_front b (lines_of text)
-
--- pieces of a text put together
-abbrev pub joined : List Text → Text
-joined [] = []
-joined (piece ∷ pieces) = piece ++ joined pieces
 
 -- the first of some lines, and the others
 abbrev pub first_line : List Text → Option Text

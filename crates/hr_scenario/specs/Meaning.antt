@@ -11,7 +11,7 @@ use Rattle.hr_rel.specs.declared.stmt.Item.TheVariants as items
 use Rattle.hr_rel.specs.declared.stmt.Stmt.{Stmt}
 use Rattle.hr_rel.specs.declared.stmt.Stmt.TheVariants as stmts
 use Rattle.hr_rel.specs.declared.value.Value.TheVariants as values
-use Rattle.hr_scenario.specs.Lines.{Text}
+use Rattle.hr_base.specs.Texts.{Text}
 use Rattle.hr_scenario.specs.declared.scenario.Scenario.{Scenario}
 use Rattle.hr_scenario.specs.declared.scenario.Block.{Block}
 use Rattle.hr_scenario.specs.declared.form.Form.{Form}
@@ -32,9 +32,9 @@ catalog_of table = record {
 }
 
 -- a column's place in the table
-abbrev pub place_of : Column → ℕ
-place_of Key = 0
-place_of Value = 1
+abbrev pub column_place : Column → ℕ
+column_place Key = 0
+column_place Value = 1
 
 -- INSERT of one row of two numbers
 abbrev pub insert_stmt : ℤ → ℤ → Stmt
@@ -46,7 +46,7 @@ select_stmt column key = stmts.Select (record {
   tables = 0 ∷ [];
   on = None;
   filter = Some (preds.Compare ops.Eq (operands.Col (record { entry = 0; column = 0 })) (operands.Lit (values.Int key)));
-  items = items.Plain (exprs.Col (record { entry = 0; column = place_of column })) ∷ [];
+  items = items.Plain (exprs.Col (record { entry = 0; column = column_place column })) ∷ [];
   groups = [];
 })
 

@@ -1,4 +1,4 @@
--- The reader as functions on lines, one for each function of the code: what the code gives. No public clause
+-- Not to be believed: the reader as functions on lines, one for each function of the code, which mirrors it. No public clause
 -- cites them; proofs/Exact.antt shows that they give what the definition of the input says.
 use Rattle.std.specs.Prelude.{◌≡◌, ℕ, suc, ℤ, pos, negsuc, ◌+◌, ◌*◌, Bool, true, false, not, ◌&&◌, ◌||◌, ◌==◌, nat_le, nat_lt, if◌then◌else◌, List, [], ◌∷◌, ◌++◌, length, take, drop, Option, Some, None, Result, Ok, Err, ⊤, codes}
 use Rattle.std.specs.Char.{is_ascii_digit, is_ascii_lowercase}
@@ -7,7 +7,8 @@ use Rattle.std.specs.Str.Parse.{signed_digits_value}
 use Rattle.std.specs.Fmt.{signed_decimal}
 use Rattle.std.specs.List.{prefix_len}
 use Rattle.std.specs.Option.{option_and_then, option_map, option_or}
-use Rattle.hr_scenario.specs.Lines.{Text}
+use Rattle.hr_base.specs.Texts.{Text}
+use Rattle.hr_base.specs.declared.limits.TheConstants.{MAX_F, MAX_SCRIPT_LINES}
 use Rattle.hr_scenario.specs.Form.{is_i64, is_name}
 use Rattle.hr_scenario.specs.declared.error.InputKind.TheVariants.{Unbuilt}
 use Rattle.hr_scenario.specs.declared.error.ReadError.{ReadError}
@@ -48,12 +49,12 @@ number_read word =
     if is_i64 (signed_digits_value 10 word) && bytes_eq (signed_decimal (signed_digits_value 10 word)) word
     then Some (signed_digits_value 10 word) else None
 
-abbrev pub up_to_three : ℤ → Option ℕ
-up_to_three (pos n) = if nat_le n 3 then Some n else None
-up_to_three (negsuc n) = None
+abbrev pub up_to_max : ℤ → Option ℕ
+up_to_max (pos n) = if nat_le n MAX_F then Some n else None
+up_to_max (negsuc n) = None
 
 unfoldable pub f_read : Text → Option ℕ
-f_read line = strip (codes "f ") line >>= number_read >>= up_to_three
+f_read line = strip (codes "f ") line >>= number_read >>= up_to_max
 
 unfoldable pub kind_read : Text → Option (EngineKind × Text)
 kind_read text = option_or
@@ -115,8 +116,8 @@ select_read table line = do
 -- the step that a line is, after so many
 unfoldable pub step_read : TableLine → ℕ → Text → Option Step
 step_read table before line =
-    if bytes_eq line (codes "COMMIT") then (if nat_lt before 100 then Some Commit else None)
-    else (if nat_lt (before + 1) 100 then option_or (insert_read table line) (select_read table line) else None)
+    if bytes_eq line (codes "COMMIT") then (if nat_lt before MAX_SCRIPT_LINES then Some Commit else None)
+    else (if nat_lt (before + 1) MAX_SCRIPT_LINES then option_or (insert_read table line) (select_read table line) else None)
 
 abbrev pub is_commit : Step → Bool
 is_commit (Insert key value) = false

@@ -3,11 +3,6 @@
 use crate::scenario::EngineKind;
 use hr_rel::{Name, Seq};
 
-/// How many replicas may be wrong, at most.
-pub const MAX_F: i64 = 3;
-/// How many lines the script of a session has, at most.
-pub const MAX_STEPS: usize = 100;
-
 /// A scenario of one table and one session.
 #[derive(Drop)]
 pub struct Form {

@@ -14,5 +14,5 @@ mod words;
 
 pub use error::{InputError, InputKind, ReadError};
 pub use form::{Column, Form, Step, TableLine};
-pub use reader::{MAX_BYTES, read};
+pub use reader::read;
 pub use scenario::{Block, EngineKind, Scenario};

@@ -1,7 +1,7 @@
 //! What a scenario of the smallest form says.
 
 ghost use Rattle.std.specs.Prelude.{◌≡◌, [], ◌∷◌, IfOk};
-ghost use Rattle.hr_scenario.specs.Meaning.{blocks_of, catalog_of, insert_stmt, number_column, place_of, scenario_of, select_stmt, stmt_of};
+ghost use Rattle.hr_scenario.specs.Meaning.{blocks_of, catalog_of, insert_stmt, number_column, column_place, scenario_of, select_stmt, stmt_of};
 
 use crate::form::{Column, Form, Step, TableLine};
 use crate::scenario::{Block, Scenario};
@@ -106,7 +106,7 @@ fn select(alloc: Global, column: Column, key: i64) -> Result<Stmt, AllocError>
     let filter = Pred::Compare(Op::Eq, of_key, Operand::Lit(Value::Int(key)));
     let item = Item::Plain(Expr::Col(ColRef {
         entry: 0,
-        column: place_of(column),
+        column: column_place(column),
     }));
     Ok(Stmt::Select(SelectStmt {
         tables: one(alloc, 0)?,
@@ -118,8 +118,8 @@ fn select(alloc: Global, column: Column, key: i64) -> Result<Stmt, AllocError>
 }
 
 /// The column's place in the table, from 0.
-fn place_of(column: Column) -> u32
-    ensures { result ≡ place_of column }
+fn column_place(column: Column) -> u32
+    ensures { result ≡ column_place column }
 {
     match column {
         Column::Key => 0,

@@ -7,19 +7,17 @@ ghost use Rattle.hr_scenario.specs.declared.error.InputError.{InputError};
 ghost use Rattle.hr_scenario.specs.declared.scenario.Scenario.{Scenario};
 ghost use Rattle.hr_scenario.specs.Input.{GivesRefusal, GivesScenario, IsCause, IsRefused, IsScenario};
 ghost use Rattle.hr_scenario.specs.Lines.{first_line, lines_of, other_lines};
-ghost use Rattle.hr_scenario.specs.Reading.{Gives, GivesBehind, column_read, f_read, fixed, form_read, insert_read, is_commit, kind_read, kinds_read, row_read, script_read, select_read, step_read, table_read, up_to_three, words_read};
+ghost use Rattle.hr_scenario.specs.Reading.{Gives, GivesBehind, column_read, f_read, fixed, form_read, insert_read, is_commit, kind_read, kinds_read, row_read, script_read, select_read, step_read, table_read, up_to_max, words_read};
 
 use crate::error::{InputError, InputKind, ReadError};
-use crate::form::{Column, Form, MAX_F, MAX_STEPS, Step, TableLine};
+use crate::form::{Column, Form, Step, TableLine};
 use crate::lines::Lines;
 use crate::meaning::scenario_of;
 use crate::scenario::{EngineKind, Scenario};
 use crate::words::{letters_at, name_of, number_at, number_of, strip};
+use hr_base::limits::{MAX_F, MAX_SCENARIO_BYTES, MAX_SCRIPT_LINES};
 use hr_rel::Seq;
 use std::alloc::{AllocError, Global};
-
-/// How many bytes a scenario has, at most: 1 MiB.
-pub const MAX_BYTES: usize = 1 << 20;
 
 /// Reads a scenario: the one whose bytes these are, or the first reason why they are none.
 pub fn read(alloc: Global, bytes: &[u8]) -> Result<Scenario, ReadError>
@@ -30,10 +28,10 @@ pub fn read(alloc: Global, bytes: &[u8]) -> Result<Scenario, ReadError>
     ensures only { (scenario : Scenario) → IsScenario bytes.now scenario → GivesScenario result scenario }
     ensures first { (error : InputError) → IsRefused bytes.now error → GivesRefusal result error }
 
-    ensures wrong { IfOk result (λ scenario. scenario.f ≤ 3) }
+    ensures wrong { IfOk result (λ scenario. scenario.f ≤ MAX_F) }
     ensures tables { IfOk result (λ scenario. length scenario.rows ≡ length scenario.catalog.tables) }
 {
-    if bytes.len() > MAX_BYTES {
+    if bytes.len() > MAX_SCENARIO_BYTES {
         return Err(ReadError::Refused(InputError {
             line: 0,
             kind: InputKind::TooLong,
@@ -98,7 +96,7 @@ fn fixed_line(lines: &mut Lines<'_>, text: &[u8]) -> Option<()>
 fn f_line(lines: &mut Lines<'_>) -> Option<u32>
     ensures line { result ≡ option_and_then f_read (first_line lines.old) }
     ensures rest { lines.new ≡ other_lines lines.old }
-    ensures few { IfSome result (λ f. f ≤ 3) }
+    ensures few { IfSome result (λ f. f ≤ MAX_F) }
 {
     f_of(lines.next()?)
 }
@@ -128,16 +126,16 @@ fn table_line(lines: &mut Lines<'_>) -> Option<TableLine>
 #[tactic(auto, unfolding(crate::specs::Reading::f_read))]
 fn f_of(line: &[u8]) -> Option<u32>
     ensures read { result ≡ f_read line.now }
-    ensures few { IfSome result (λ f. f ≤ 3) }
+    ensures few { IfSome result (λ f. f ≤ MAX_F) }
 {
-    up_to_three(number_of(strip(line, b"f ")?)?)
+    up_to_max(number_of(strip(line, b"f ")?)?)
 }
 
-fn up_to_three(number: i64) -> Option<u32>
-    ensures read { result ≡ up_to_three number }
-    ensures few { IfSome result (λ f. f ≤ 3) }
+fn up_to_max(number: i64) -> Option<u32>
+    ensures read { result ≡ up_to_max number }
+    ensures few { IfSome result (λ f. f ≤ MAX_F) }
 {
-    if (0..=MAX_F).contains(&number) {
+    if (0..=i64::from(MAX_F)).contains(&number) {
         Some(number as u32)
     } else {
         None
@@ -250,16 +248,16 @@ fn is_commit(step: &Step) -> bool
 #[tactic(auto, unfolding(crate::specs::Reading::step_read))]
 fn step_of(line: &[u8], table: &TableLine, before: usize) -> Option<Step>
     ensures read { result ≡ step_read table.now before line.now }
-    ensures few { OnSome result (before < 100) }
+    ensures few { OnSome result (before < MAX_SCRIPT_LINES) }
 {
     if line == b"COMMIT".as_slice() {
-        return if before < MAX_STEPS {
+        return if before < MAX_SCRIPT_LINES {
             Some(Step::Commit)
         } else {
             None
         };
     }
-    if before >= MAX_STEPS - 1 {
+    if before >= MAX_SCRIPT_LINES - 1 {
         return None;
     }
     insert_of(line, table).or(select_of(line, table))
@@ -316,6 +314,3 @@ fn column_of(word: &[u8], table: &TableLine) -> Option<Column>
     }
     None
 }
-
-#[cfg(test)]
-mod tests;

@@ -10,12 +10,10 @@ ghost use Rattle.std.specs.Str.Parse.{signed_digits_value};
 ghost use Rattle.hr_scenario.specs.Form.{is_i64, is_keyword, is_name};
 ghost use Rattle.hr_scenario.specs.Reading.{run_of, past_run, strip, is_number_byte, name_read, number_read};
 
+use hr_base::limits::MAX_NAME_BYTES;
 use hr_rel::Name;
 use itoa::Buffer;
 use std::str;
-
-/// How many letters a name has, at most.
-const NAME_LEN: usize = 32;
 
 /// The words that SQL keeps for itself, in small letters.
 const KEYWORDS: [&str; 33] = [
@@ -78,7 +76,7 @@ pub fn name_of(word: &[u8]) -> Option<Name>
 fn is_name(word: &[u8]) -> bool
     ensures { result ≡ is_name word.now }
 {
-    !word.is_empty() && word.len() <= NAME_LEN && all_letters(word) && !is_keyword(word)
+    !word.is_empty() && word.len() <= MAX_NAME_BYTES && all_letters(word) && !is_keyword(word)
 }
 
 fn all_letters(word: &[u8]) -> bool

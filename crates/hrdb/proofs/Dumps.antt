@@ -2,7 +2,7 @@
 use Rattle.std.proofs.Common.{◌≡◌, List, [], ◌∷◌, replicate, length, refl, ap, ◌∙◌}
 use Rattle.hr_rel.specs.declared.value.Value.{Value}
 use Rattle.hr_rel.specs.Database.{Database}
-use Rattle.hr_shepherd.specs.Replicas.{Hold}
+use Rattle.hr_one_session.specs.Replicas.{Hold}
 use Rattle.hrdb.specs.Replay.{dumps_of}
 
 pub dumps_are : (db : Database) (replicas : List Database) → Hold db replicas → dumps_of replicas ≡ replicate (length replicas) db.tables

@@ -3,10 +3,10 @@ use Rattle.std.specs.Prelude.{◌≡◌, ◌+◌, ◌*◌, ◌≤◌, List, [], 
 use Rattle.hr_rel.specs.declared.value.Value.{Value}
 use Rattle.hr_rel.specs.declared.stmt.Stmt.{Stmt}
 use Rattle.hr_rel.specs.Database.{Database}
-use Rattle.hr_rel.specs.Serial.{database_after, serial_answers}
+use Rattle.hr_meaning.specs.Serial.{database_after, serial_answers}
 use Rattle.hr_scenario.specs.declared.scenario.Scenario.{Scenario}
 use Rattle.hr_scenario.specs.declared.scenario.Block.{Block}
-use Rattle.hr_report.specs.Texts.{Text}
+use Rattle.hr_base.specs.Texts.{Text}
 use Rattle.hr_report.specs.Report.{report_text}
 
 -- the database that the scenario starts from

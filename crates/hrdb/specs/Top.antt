@@ -1,5 +1,5 @@
 -- What the program's status says of what it read and wrote.
-use Rattle.std.specs.Prelude.{◌≡◌, ◌+◌, ◌^◌, Bool, true, false, Option, List, [], ◌∷◌, length, map, string_bytes, codes, String}
+use Rattle.std.specs.Prelude.{◌≡◌, ◌+◌, Bool, true, false, Option, List, [], ◌∷◌, length, map, string_bytes, codes, String}
 use Rattle.std.specs.Io.KnownBytes.{Consumes, Appends, IsAtEnd}
 use Rattle.std.specs.declared.alloc.Global.{Global}
 use Rattle.hr_io.specs.Bytes.{AppendsFront}
@@ -7,7 +7,8 @@ use Rattle.hr_scenario.specs.declared.scenario.Scenario.{Scenario}
 use Rattle.hr_scenario.specs.declared.error.InputError.{InputError}
 use Rattle.hr_scenario.specs.declared.error.InputKind.TheVariants.{TooLong, Unbuilt}
 use Rattle.hr_scenario.specs.Input.{IsScenario, IsRefused}
-use Rattle.hr_report.specs.Texts.{Text}
+use Rattle.hr_base.specs.Texts.{Text}
+use Rattle.hr_base.specs.declared.limits.TheConstants.{MAX_SCENARIO_BYTES}
 use Rattle.hrdb.specs.declared.status.Status.{Status}
 use Rattle.hrdb.specs.declared.status.Status.TheVariants as status
 use Rattle.hrdb.specs.Replay.{report_of}
@@ -41,7 +42,7 @@ pub record IsRefusedInput (left left' : Option Text) (error : InputError) : Type
   pub taken : Consumes left left' bytes
   pub why : IsRefused bytes error
   pub all : error.kind ≡ Unbuilt → IsAtEnd left'
-  pub past : error.kind ≡ TooLong → length bytes ≡ 2 ^ 20 + 1
+  pub past : error.kind ≡ TooLong → length bytes ≡ MAX_SCENARIO_BYTES + 1
 
 -- whether nothing is written where the program ends with this status
 abbrev pub is_silent : Status → Bool

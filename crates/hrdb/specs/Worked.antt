@@ -6,7 +6,7 @@ use Rattle.hr_scenario.specs.declared.form.Step.{Step}
 use Rattle.hr_scenario.specs.declared.form.Step.TheVariants.{Insert, Select, Commit}
 use Rattle.hr_scenario.specs.declared.form.Column.TheVariants.{Key, Value}
 use Rattle.hr_scenario.specs.declared.scenario.EngineKind.TheVariants.{ByTable, ByRange}
-use Rattle.hr_report.specs.Texts.{Text, line}
+use Rattle.hr_base.specs.Texts.{Text, line}
 
 abbrev pub text_of : List Text → Text
 text_of lines = flat_map line lines

@@ -1,14 +1,14 @@
 //! A scenario's run: its session's blocks, one after another, at all replicas.
 ghost use Rattle.std.specs.Prelude.{◌≡◌, ◌+◌, ◌*◌, IfOk, OnOk, length, map, replicate, string_bytes};
 ghost use Rattle.hr_rel.specs.Database.{Database};
-ghost use Rattle.hr_rel.specs.Serial.{database_after, serial_answers};
-ghost use Rattle.hr_shepherd.specs.Replicas.{Hold};
+ghost use Rattle.hr_meaning.specs.Serial.{database_after, serial_answers};
+ghost use Rattle.hr_one_session.specs.Replicas.{Hold};
 ghost use Rattle.hrdb.specs.Replay.{IsReady, start, report_of, dumps_of, first_script, statements_of};
 
 use hr_rel::{Answer, Rows, Seq, Stmt, TryCopy};
 use hr_report::report_text;
 use hr_scenario::{Block, Scenario};
-use hr_shepherd::{Plain, Shepherd};
+use hr_one_session::{Plain, OneSession};
 use std::alloc::{AllocError, Global};
 
 /// The report of a scenario's run.
@@ -16,7 +16,7 @@ pub fn report_of(alloc: Global, scenario: &Scenario) -> Result<String, AllocErro
     requires { IsReady scenario.now }
     ensures { IfOk result (λ text. string_bytes text ≡ report_of scenario.now) }
 {
-    let mut shepherd = Shepherd::new(alloc, scenario.f, 1)?;
+    let mut shepherd = OneSession::new(alloc, scenario.f, 1)?;
     let mut replicas = replicas_of(alloc, scenario)?;
     let ran = run_script(alloc, &mut shepherd, &mut replicas, first_script(scenario))?;
     report_text(alloc, scenario, &ran.log, &ran.dumps)
@@ -54,7 +54,7 @@ fn first_script(scenario: &Scenario) -> &[Block]
 
 fn run_script(
     alloc: Global,
-    shepherd: &mut Shepherd,
+    shepherd: &mut OneSession,
     replicas: &mut [Plain],
     blocks: &[Block],
 ) -> Result<Ran, AllocError>
@@ -71,7 +71,7 @@ fn run_script(
 // Runs blocks one after another, and answers each block's answers.
 fn run_blocks(
     alloc: Global,
-    shepherd: &mut Shepherd,
+    shepherd: &mut OneSession,
     replicas: &mut [Plain],
     blocks: &[Block],
 ) -> Result<Vec<Seq<Answer>>, AllocError>

@@ -1,14 +1,15 @@
 //! The program over any source and sink.
 ghost use Rattle.std.specs.Prelude.{◌≡◌, ◌≢◌, ◌↔◌, ℕ, true, IsTrue, codes, string_bytes};
 ghost use Rattle.std.specs.Io.KnownBytes.{Keeps};
-ghost use Rattle.hr_io.specs.Faults.{Rose};
+ghost use Rattle.hr_base.specs.Counters.{Rose};
 ghost use Rattle.hr_scenario.specs.declared.error.InputKind.{InputKind};
 ghost use Rattle.hrdb.specs.Top.{IsCommand, IsStepped, IsCutOff, IsRefusedInput, is_silent};
 
 use crate::Status;
 use crate::replay::report_of;
+use hr_base::limits::MAX_SCENARIO_BYTES;
 use hr_io::{Gate, Sink, Source, read_whole, write_whole};
-use hr_scenario::{InputKind, MAX_BYTES, read};
+use hr_scenario::{InputKind, read};
 use std::alloc::Global;
 use std::sync::Wait;
 use std::thread::Threads;
@@ -96,7 +97,7 @@ fn step<S: Source, K: Sink>(alloc: Global, source: &mut S, sink: &mut K) -> Stat
     ensures silent { is_silent result ≡ true → Keeps (K.taken sink.old) (K.taken sink.new) }
     ensures no_audit { result ≢ Status.Differs }
 {
-    let bytes = match read_whole(alloc, source, MAX_BYTES) {
+    let bytes = match read_whole(alloc, source, MAX_SCENARIO_BYTES) {
         Ok(bytes) => bytes,
         Err(hr_io::ReadError::TooLong) => return too_long(),
         Err(hr_io::ReadError::Fault) => return Status::ReadFault,

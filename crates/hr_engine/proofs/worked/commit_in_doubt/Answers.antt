@@ -1,5 +1,5 @@
 use Rattle.std.proofs.Common.{[], ◌∷◌, refl, inl, inr}
-use Rattle.hr_rel.specs.Worked.{holding}
+use Rattle.hr_meaning.specs.Worked.{holding}
 use Rattle.hr_engine.specs.Worked.{inserts, in_doubt, restarted}
 use Rattle.hr_engine.proofs.Orders.{none_run, one_runs}
 use Rattle.hr_engine.proofs.WorkedLemmas.{only_first}

@@ -1,6 +1,6 @@
 use Rattle.std.proofs.Common.{[], ◌∷◌, refl}
 use Rattle.hr_rel.specs.declared.answer.Answer.TheVariants.{Rows}
-use Rattle.hr_rel.specs.Worked.{holding, row, one}
+use Rattle.hr_meaning.specs.Worked.{holding, row, one}
 use Rattle.hr_engine.specs.Worked.{inserts, two_open}
 use Rattle.hr_engine.proofs.SameAnswers.{same_itself}
 use Rattle.hr_engine.proofs.Orders.{one_runs, two_run}

@@ -1,6 +1,6 @@
 use Rattle.std.proofs.Common.{◌≡◌, ℕ, [], ◌∷◌, refl, arith}
 use Rattle.std.proofs.lemmas.List.Sorted.{length_permutation}
-use Rattle.hr_rel.specs.Worked.{one}
+use Rattle.hr_meaning.specs.Worked.{one}
 use Rattle.hr_engine.proofs.worked.uncommitted_row_read.Goals as goal
 
 -- the reader alone finds no row

@@ -1,5 +1,5 @@
 use Rattle.std.proofs.Common.{◌≡◌, drop}
-use Rattle.hr_rel.specs.Insert.{inserted}
+use Rattle.hr_meaning.specs.Insert.{inserted}
 use Rattle.hr_plain.proofs.insert.inserted.Given as goal
 
 abbrev pub invariant-rows : goal.invariant-rows

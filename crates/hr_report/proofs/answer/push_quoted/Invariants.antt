@@ -1,6 +1,6 @@
 use Rattle.std.proofs.Common.{◌≡◌, ◌++◌, take, string_bytes}
 use Rattle.std.specs.List.{flat_map}
-use Rattle.hr_report.specs.Answers.{quoted_byte}
+use Rattle.hr_base.specs.Texts.{quoted_byte}
 use Rattle.hr_report.proofs.answer.push_quoted.Given as goal
 
 abbrev pub invariant-bytes : goal.invariant-bytes

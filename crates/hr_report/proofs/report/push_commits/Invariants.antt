@@ -1,5 +1,5 @@
 use Rattle.std.proofs.Common.{◌≡◌, ◌++◌, take, string_bytes}
-use Rattle.hr_report.specs.Texts.{each_from}
+use Rattle.hr_base.specs.Texts.{each_from}
 use Rattle.hr_report.specs.Report.{commit_text}
 use Rattle.hr_report.proofs.report.push_commits.Given as goal
 

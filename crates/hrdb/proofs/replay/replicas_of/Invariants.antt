@@ -1,5 +1,5 @@
 use Rattle.std.proofs.Common.{◌≡◌, length}
-use Rattle.hr_shepherd.specs.Replicas.{Hold}
+use Rattle.hr_one_session.specs.Replicas.{Hold}
 use Rattle.hrdb.specs.Replay.{start}
 use Rattle.hrdb.proofs.replay.replicas_of.Given as goal
 

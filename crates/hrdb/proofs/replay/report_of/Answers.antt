@@ -1,10 +1,10 @@
 use Rattle.std.proofs.Common.{◌≡◌, ◌+◌, ◌*◌, ℕ, List, map, replicate, ap, sym, ◌∙◌, subst, string_bytes, IfOk}
 use Rattle.hr_rel.specs.declared.value.Value.{Value}
 use Rattle.hr_rel.specs.declared.answer.Answer.{Answer}
-use Rattle.hr_rel.specs.Serial.{database_after, serial_answers}
+use Rattle.hr_meaning.specs.Serial.{database_after, serial_answers}
 use Rattle.hr_scenario.specs.declared.scenario.Block.{Block}
-use Rattle.hr_shepherd.specs.Replicas.{Hold}
-use Rattle.hr_report.specs.Texts.{Text}
+use Rattle.hr_one_session.specs.Replicas.{Hold}
+use Rattle.hr_base.specs.Texts.{Text}
 use Rattle.hr_report.specs.Report.{report_text}
 use Rattle.hrdb.specs.Replay.{start, log_of, last_dumps, statements_of}
 use Rattle.hrdb.proofs.replay.report_of.Goals as goal

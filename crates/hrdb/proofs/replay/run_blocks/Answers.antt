@@ -3,10 +3,10 @@ use Rattle.std.proofs.lemmas.List.{drop_all, append-nil}
 use Rattle.hr_rel.specs.declared.answer.Answer.{Answer}
 use Rattle.hr_rel.specs.declared.stmt.Stmt.{Stmt}
 use Rattle.hr_rel.specs.Database.{Database}
-use Rattle.hr_rel.specs.Serial.{play, database_after, serial_answers}
+use Rattle.hr_meaning.specs.Serial.{play, database_after, serial_answers}
 use Rattle.hr_scenario.specs.declared.scenario.Block.{Block}
-use Rattle.hr_shepherd.specs.Replicas.{Hold}
-use Rattle.hr_shepherd.proofs.InPlace.{next_item}
+use Rattle.hr_one_session.specs.Replicas.{Hold}
+use Rattle.hr_one_session.proofs.InPlace.{next_item}
 use Rattle.hrdb.specs.Replay.{statements_of}
 use Rattle.hrdb.proofs.replay.run_blocks.Goals as goal
 

@@ -1,7 +1,7 @@
 use Rattle.std.proofs.Common.{◌≡◌, ◌++◌, drop, map}
 use Rattle.hr_rel.specs.Database.{Database}
-use Rattle.hr_rel.specs.Serial.{database_after, serial_answers}
-use Rattle.hr_shepherd.specs.Replicas.{Hold}
+use Rattle.hr_meaning.specs.Serial.{database_after, serial_answers}
+use Rattle.hr_one_session.specs.Replicas.{Hold}
 use Rattle.hrdb.specs.Replay.{statements_of}
 use Rattle.hrdb.proofs.replay.run_blocks.Given as goal
 

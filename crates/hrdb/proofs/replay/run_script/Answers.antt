@@ -1,5 +1,5 @@
 use Rattle.std.proofs.Common.{ℕ, map, replicate, ap, ◌∙◌}
-use Rattle.hr_rel.specs.Serial.{database_after}
+use Rattle.hr_meaning.specs.Serial.{database_after}
 use Rattle.hrdb.specs.Replay.{statements_of}
 use Rattle.hrdb.proofs.Dumps.{dumps_are}
 use Rattle.hrdb.proofs.replay.run_script.Goals as goal

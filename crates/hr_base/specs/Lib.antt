@@ -1,0 +1,4 @@
+pub mod Lists
+pub mod Counters
+pub mod Bytes
+pub mod Texts

@@ -1,0 +1,8 @@
+//! The way of one session, until the shepherd's core is there: one transaction after another at all replicas, which are
+//! all honest. The program runs so today.
+#![tactic(auto)]
+
+mod session;
+
+pub use hr_plain::Plain;
+pub use session::OneSession;
