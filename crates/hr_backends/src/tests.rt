@@ -3,11 +3,11 @@ ghost use Rattle.std.specs.Prelude.{◌≡◌, ◌<◌, [], ◌∷◌, IfOk, IsT
 ghost use Rattle.hr_faulty.specs.Script.{names_calls};
 
 use super::*;
-use hr_faulty::{Act, Fault, Faulty};
+use hr_faulty::{Act, Fault, Faulty, When, names_calls};
 use hr_one_engine::OneEngine;
 use hr_rel::{
     Answer, Catalog, ColKind, ColRef, ColumnDef, Expr, InsertStmt, Item, Name, Op, Operand, Pred,
-    Row, Rows, SelectStmt, Seq, TableDef, Value,
+    Row, Rows, RunError, SelectStmt, Seq, TableDef, Value,
 };
 use std::alloc::AllocError;
 use std::test::Fail;
@@ -83,21 +83,20 @@ fn engine(alloc: Global) -> Result<OneEngine, AllocError> {
     OneEngine::new(alloc, &catalog(alloc)?, &one_row(alloc, 1, 10)?)
 }
 
-// The script `wrong 7` at this call.
-fn wrong_at(alloc: Global, call: u64) -> Result<Vec<Fault>, AllocError>
+// The script of this act at this call.
+fn script(alloc: Global, call: u64, act: Act) -> Result<Vec<Fault>, AllocError>
     requires { call < 100 }
     ensures { IfOk result (λ script. IsTrue (names_calls script.items)) }
 {
     let mut script = Vec::new(alloc);
-    let act = Act::Wrong(7);
     script.push(Fault { call, act })?;
     Ok(script)
 }
 
-fn faulty(alloc: Global, call: u64) -> Result<Faulty<OneEngine>, AllocError>
+fn faulty(alloc: Global, call: u64, act: Act) -> Result<Faulty<OneEngine>, AllocError>
     requires { call < 100 }
 {
-    let script = wrong_at(alloc, call)?;
+    let script = script(alloc, call, act)?;
     Ok(Faulty::new(engine(alloc)?, script))
 }
 
@@ -131,16 +130,201 @@ fn a_fresh_engine_has_its_rows(rt: HostRuntime) -> Result<(), Fail> {
 fn any_backend_runs_a_transaction_alone(rt: HostRuntime) -> Result<(), Fail> {
     let alloc = rt.alloc();
     assert!(rt; inserts_alone(alloc, &mut engine(alloc)?)?);
-    assert!(rt; inserts_alone(alloc, &mut faulty(alloc, 4)?)?);
+    assert!(rt; inserts_alone(alloc, &mut faulty(alloc, 4, Act::Wrong(7))?)?);
     Ok(())
 }
 
 #[test]
 fn scripted_answer(rt: HostRuntime) -> Result<(), Fail> {
     let alloc = rt.alloc();
-    let mut faulty = faulty(alloc, 2)?;
+    let mut faulty = faulty(alloc, 2, Act::Wrong(7))?;
     assert!(rt; reads(alloc, &mut faulty, 10)?);
     assert!(rt; reads(alloc, &mut faulty, 7)?);
     assert!(rt; reads(alloc, &mut faulty, 10)?);
+    Ok(())
+}
+
+// Transaction `txn` inserts the row (id, 0), which is answered Done.
+fn inserts<B: Backend>(
+    alloc: Global,
+    backend: &mut B,
+    txn: TxnId,
+    id: i64,
+) -> Result<bool, AllocError> {
+    let stmt = insert(alloc, id, 0)?;
+    Ok(backend.run(alloc, txn, &stmt) == RunReply::Done(Answer::Count(1)))
+}
+
+// The rows of the keys of `ids`, each with the value 0, behind the row (1, 10).
+fn holds<B: Backend>(alloc: Global, backend: &B, ids: &[i64]) -> Result<bool, AllocError> {
+    let mut rows = one(alloc, row(alloc, 1, 10)?)?;
+    for id in ids {
+        rows.push(row(alloc, *id, 0)?)?;
+    }
+    Ok(backend.dump(alloc)? == one(alloc, rows)?)
+}
+
+#[test]
+fn a_transaction_of_three_statements(rt: HostRuntime) -> Result<(), Fail> {
+    let alloc = rt.alloc();
+    let mut engine = engine(alloc)?;
+    assert!(rt; inserts(alloc, &mut engine, 1, 5)?);
+    assert!(rt; reads(alloc, &mut engine, 10)?);
+    assert!(rt; inserts(alloc, &mut engine, 1, 6)?);
+    assert!(rt; holds(alloc, &engine, &[])?);
+    assert_eq!(rt; engine.commit(1), EndReply::Done);
+    assert!(rt; holds(alloc, &engine, &[5, 6])?);
+    Ok(())
+}
+
+#[test]
+fn a_second_writer_waits(rt: HostRuntime) -> Result<(), Fail> {
+    let alloc = rt.alloc();
+    let mut engine = engine(alloc)?;
+    assert!(rt; inserts(alloc, &mut engine, 1, 5)?);
+    let stmt = insert(alloc, 6, 0)?;
+    assert!(rt; engine.run(alloc, 2, &stmt) == RunReply::Blocked(one(alloc, 1)?));
+    assert_eq!(rt; engine.commit(1), EndReply::Done);
+    assert!(rt; inserts(alloc, &mut engine, 2, 6)?);
+    Ok(())
+}
+
+#[test]
+fn what_is_not_committed_is_undone(rt: HostRuntime) -> Result<(), Fail> {
+    let alloc = rt.alloc();
+    let mut engine = engine(alloc)?;
+    assert!(rt; inserts(alloc, &mut engine, 1, 5)?);
+    assert_eq!(rt; engine.rollback(1), EndReply::Done);
+    assert!(rt; inserts(alloc, &mut engine, 2, 5)?);
+    assert_eq!(rt; engine.restart(), Ok(0));
+    assert!(rt; inserts(alloc, &mut engine, 3, 5)?);
+    assert_eq!(rt; engine.commit(3), EndReply::Done);
+    assert!(rt; holds(alloc, &engine, &[5])?);
+    Ok(())
+}
+
+// What a backend that does this at its first call replies to an INSERT there.
+fn replies(alloc: Global, act: Act) -> Result<RunReply, AllocError> {
+    let mut faulty = faulty(alloc, 1, act)?;
+    let stmt = insert(alloc, 5, 0)?;
+    Ok(faulty.run(alloc, 1, &stmt))
+}
+
+#[test]
+fn lies_about_a_run(rt: HostRuntime) -> Result<(), Fail> {
+    let alloc = rt.alloc();
+    let seven = one(alloc, one(alloc, Value::Int(7))?)?;
+    assert!(rt; replies(alloc, Act::Wrong(7))? == RunReply::Done(Answer::Rows(seven)));
+    assert!(rt; replies(alloc, Act::Drop(3))? == RunReply::Done(Answer::Count(3)));
+    assert!(rt; replies(alloc, Act::Fail)? == RunReply::Done(Answer::Failed(RunError::Overflow)));
+    assert!(rt; replies(alloc, Act::Position(3))? == RunReply::Done(Answer::Count(1)));
+    Ok(())
+}
+
+#[test]
+fn lies_about_waits(rt: HostRuntime) -> Result<(), Fail> {
+    let alloc = rt.alloc();
+    let named = RunReply::Blocked(one(alloc, 4)?);
+    assert!(rt; replies(alloc, Act::Block(one(alloc, 4)?))? == named);
+    let cycle = RunReply::Deadlock(one(alloc, 4)?);
+    assert!(rt; replies(alloc, Act::Deadlock(one(alloc, 4)?))? == cycle);
+    Ok(())
+}
+
+#[test]
+fn commits_early(rt: HostRuntime) -> Result<(), Fail> {
+    let alloc = rt.alloc();
+    let mut faulty = faulty(alloc, 1, Act::Early)?;
+    assert!(rt; inserts(alloc, &mut faulty, 1, 5)?);
+    assert!(rt; holds(alloc, &faulty, &[5])?);
+    Ok(())
+}
+
+#[test]
+fn tells_a_wrong_position(rt: HostRuntime) -> Result<(), Fail> {
+    let mut faulty = faulty(rt.alloc(), 1, Act::Position(9))?;
+    assert_eq!(rt; faulty.restart(), Ok(9));
+    assert_eq!(rt; faulty.restart(), Ok(0));
+    Ok(())
+}
+
+// A backend that is lost at the commit of its first transaction, and what its restart tells.
+fn lost_at_commit(alloc: Global, when: When) -> Result<(EndReply, Result<u64, Lost>), AllocError> {
+    let mut faulty = faulty(alloc, 2, Act::Lose(when))?;
+    let _done = inserts(alloc, &mut faulty, 1, 5)?;
+    let committed = faulty.commit(1);
+    Ok((committed, faulty.restart()))
+}
+
+#[test]
+fn a_commit_in_doubt(rt: HostRuntime) -> Result<(), Fail> {
+    let alloc = rt.alloc();
+    let before = lost_at_commit(alloc, When::Before)?;
+    assert!(rt; before == (EndReply::Lost, Ok(0)));
+    let after = lost_at_commit(alloc, When::After)?;
+    assert!(rt; after == (EndReply::Lost, Ok(1)));
+    Ok(())
+}
+
+#[test]
+fn a_loss_lasts_until_a_restart(rt: HostRuntime) -> Result<(), Fail> {
+    let alloc = rt.alloc();
+    for when in [When::Before, When::After] {
+        let mut faulty = faulty(alloc, 1, Act::Lose(when))?;
+        let stmt = insert(alloc, 5, 0)?;
+        assert!(rt; faulty.run(alloc, 1, &stmt) == RunReply::Lost);
+        assert!(rt; faulty.run(alloc, 1, &stmt) == RunReply::Lost);
+        assert_eq!(rt; faulty.commit(1), EndReply::Lost);
+        assert_eq!(rt; faulty.rollback(1), EndReply::Lost);
+        assert_eq!(rt; faulty.restart(), Ok(0));
+        assert!(rt; inserts(alloc, &mut faulty, 1, 5)?);
+    }
+    Ok(())
+}
+
+#[test]
+fn losses_at_ends(rt: HostRuntime) -> Result<(), Fail> {
+    for when in [When::Before, When::After] {
+        let mut at_rollback = faulty(rt.alloc(), 1, Act::Lose(when))?;
+        assert_eq!(rt; at_rollback.rollback(1), EndReply::Lost);
+        assert_eq!(rt; at_rollback.restart(), Ok(0));
+        assert_eq!(rt; at_rollback.rollback(1), EndReply::Done);
+        let mut at_restart = faulty(rt.alloc(), 1, Act::Lose(when))?;
+        assert_eq!(rt; at_restart.restart(), Err(Lost));
+        assert_eq!(rt; at_restart.restart(), Ok(0));
+    }
+    Ok(())
+}
+
+#[test]
+fn scripts_that_name_calls(rt: HostRuntime) -> Result<(), Fail> {
+    let mut faults = script(rt.alloc(), 99, Act::Early)?;
+    assert!(rt; names_calls(&faults));
+    faults.push(Fault {
+        call: u64::MAX,
+        act: Act::Early,
+    })?;
+    assert!(rt; !names_calls(&faults));
+    Ok(())
+}
+
+// The rows (0, 0), (1, 0) and so on.
+fn many_rows(alloc: Global, count: i64) -> Result<Seq<Row>, AllocError> {
+    let mut rows = Seq::new(alloc);
+    for id in 0..count {
+        rows.push(row(alloc, id, 0)?)?;
+    }
+    Ok(rows)
+}
+
+#[test]
+fn a_table_of_many_rows(rt: HostRuntime) -> Result<(), Fail> {
+    let alloc = rt.alloc();
+    let rows = one(alloc, many_rows(alloc, 1500)?)?;
+    let mut engine = OneEngine::new(alloc, &catalog(alloc)?, &rows)?;
+    assert!(rt; inserts(alloc, &mut engine, 1, 1500)?);
+    assert_eq!(rt; engine.commit(1), EndReply::Done);
+    let more = one(alloc, many_rows(alloc, 1501)?)?;
+    assert!(rt; engine.dump(alloc)? == more);
     Ok(())
 }

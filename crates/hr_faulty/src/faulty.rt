@@ -25,9 +25,15 @@ pub struct Faulty<B> {
     lost: bool,
 }
 
+/// Whether no fault names call 2^64 - 1, at which the count of calls stands still, as [`Faulty::new`] requires.
+pub fn names_calls(script: &[Fault]) -> bool
+    ensures { result ≡ names_calls script.now }
+{
+    script.iter().all(|fault| fault.call < u64::MAX)
+}
+
 impl<B: Backend> Faulty<B> {
-    /// Of two faults with one call number the first counts. No fault names call 2^64 - 1, at which the count of calls
-    /// stands still.
+    /// Of two faults with one call number the first counts. `names_calls` tells whether a script is one.
     pub fn new(inner: B, script: Vec<Fault>) -> Faulty<B>
         requires { IsTrue (names_calls script.items) }
         ensures stands { (start : Database) → B.stands inner start [] → ⟦<Faulty<B> as Backend>⟧.stands result start [] }

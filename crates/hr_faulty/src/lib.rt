@@ -4,5 +4,5 @@
 mod faulty;
 mod script;
 
-pub use faulty::Faulty;
+pub use faulty::{Faulty, names_calls};
 pub use script::{Act, Fault, When};
