@@ -5,7 +5,7 @@ use Rattle.hr_rel.specs.Database.{Database}
 use Rattle.hr_meaning.specs.Serial.{play}
 use Rattle.hr_engine.specs.declared.reply.RunReply.TheVariants as run
 use Rattle.hr_engine.specs.declared.reply.EndReply.TheVariants as end
-use Rattle.hr_engine.specs.Journal.{Call, Ran, Committed, RolledBack, Restarted, Journal}
+use Rattle.hr_engine.specs.Journal.{Ran, Committed, RolledBack, Restarted, Journal}
 use Rattle.hr_engine.specs.Effects.{Settling, settling_of}
 use Rattle.hr_engine.specs.Effects as does
 use Rattle.hr_engine.specs.Attempts.{attempt, statements}

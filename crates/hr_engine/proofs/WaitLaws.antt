@@ -6,7 +6,7 @@ use Rattle.hr_rel.specs.declared.answer.Answer.{Answer}
 use Rattle.hr_rel.specs.declared.stmt.Stmt.{Stmt}
 use Rattle.hr_engine.specs.declared.reply.RunReply.TheVariants as run
 use Rattle.hr_engine.specs.declared.reply.EndReply.TheVariants as end
-use Rattle.hr_engine.specs.Journal.{Call, Ran, Committed, RolledBack, Restarted, Journal}
+use Rattle.hr_engine.specs.Journal.{Call, Ran, Committed, RolledBack, Journal}
 use Rattle.hr_engine.specs.Effects.{Effect, effect_of}
 use Rattle.hr_engine.specs.Effects as does
 use Rattle.hr_engine.specs.Attempts.{attempt, is_running}

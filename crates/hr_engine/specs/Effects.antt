@@ -1,6 +1,6 @@
 -- What a call does to the transactions of its backend, and to what is committed there. Each word of a journal looks at a
 -- call through one of these two.
-use Rattle.std.specs.Prelude.{ℕ, Bool, true, false, not, ◌==◌, if◌then◌else◌, Ok, Err, List, [], ◌∷◌, ◌++◌}
+use Rattle.std.specs.Prelude.{ℕ, Bool, true, false, ◌==◌, if◌then◌else◌, Ok, Err, List, [], ◌∷◌, ◌++◌}
 use Rattle.hr_rel.specs.declared.answer.Answer.{Answer}
 use Rattle.hr_rel.specs.declared.stmt.Stmt.{Stmt}
 use Rattle.hr_engine.specs.declared.reply.RunReply.TheVariants as run

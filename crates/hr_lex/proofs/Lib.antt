@@ -4,4 +4,4 @@ pub mod Spans
 pub mod Each
 pub mod Within
 pub mod Tiling
-pub mod Worked
+pub mod WorkedTexts

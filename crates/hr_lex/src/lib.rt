@@ -11,6 +11,7 @@ mod quote;
 mod reading;
 mod sign;
 mod token;
+pub mod worked;
 
 pub use reading::{Reading, read, tokens};
 pub use token::{Keyword, LexError, Token, TokenKind};

@@ -1,4 +1,4 @@
--- Worked texts.
+-- The worked texts, computed.
 use Rattle.std.proofs.Common.{◌≡◌, [], ◌∷◌, codes, Ok, Err, refl, rules}
 use Rattle.hr_lex.specs.declared.token.Keyword.TheVariants as k
 use Rattle.hr_lex.specs.declared.token.TokenKind.TheVariants as t
