@@ -144,154 +144,256 @@ fn scripted_answer(rt: HostRuntime) -> Result<(), Fail> {
     Ok(())
 }
 
-// Transaction `txn` inserts the row (id, 0), which is answered Done.
-fn inserts<B: Backend>(
+/// A call of a backend: an INSERT of a row with this key, an end, a restart, or a look at its rows.
+#[derive(Clone, Copy)]
+enum Call {
+    Insert(TxnId, i64),
+    Commit(TxnId),
+    Rollback(TxnId),
+    Restart,
+    Dump,
+}
+
+/// What a test tells of a reply.
+#[derive(Clone, Copy, PartialEq, Eq)]
+enum Reply {
+    Counted(u64),
+    Rows(usize),
+    Failed(RunError),
+    Blocked(Option<TxnId>),
+    Deadlock(Option<TxnId>),
+    Ended,
+    Told(u64),
+    Lost,
+    NoMemory,
+}
+
+// The transaction in a list of one.
+fn only(named: &Seq<TxnId>) -> Option<TxnId> {
+    match named.as_slice() {
+        [txn] => Some(*txn),
+        _ => None,
+    }
+}
+
+fn of_answer(answer: &Answer) -> Reply {
+    match answer {
+        Answer::Count(count) => Reply::Counted(*count),
+        Answer::Rows(rows) => Reply::Rows(rows.as_slice().len()),
+        Answer::Failed(error) => Reply::Failed(*error),
+    }
+}
+
+fn of_run(reply: &RunReply) -> Reply {
+    match reply {
+        RunReply::Done(answer) => of_answer(answer),
+        RunReply::Blocked(named) => Reply::Blocked(only(named)),
+        RunReply::Deadlock(cycle) => Reply::Deadlock(only(cycle)),
+        RunReply::Lost => Reply::Lost,
+        RunReply::NoMemory => Reply::NoMemory,
+    }
+}
+
+fn of_end(reply: EndReply) -> Reply {
+    match reply {
+        EndReply::Done => Reply::Ended,
+        EndReply::Lost => Reply::Lost,
+    }
+}
+
+fn of_restart(told: Result<u64, Lost>) -> Reply {
+    match told {
+        Ok(count) => Reply::Told(count),
+        Err(Lost) => Reply::Lost,
+    }
+}
+
+fn of_dump(rows: &Rows) -> Reply {
+    match rows.as_slice() {
+        [table] => Reply::Rows(table.as_slice().len()),
+        _ => Reply::Rows(0),
+    }
+}
+
+fn inserted<B: Backend>(
     alloc: Global,
     backend: &mut B,
     txn: TxnId,
     id: i64,
-) -> Result<bool, AllocError> {
+) -> Result<Reply, AllocError> {
     let stmt = insert(alloc, id, 0)?;
-    Ok(backend.run(alloc, txn, &stmt) == RunReply::Done(Answer::Count(1)))
+    Ok(of_run(&backend.run(alloc, txn, &stmt)))
 }
 
-// The rows of the keys of `ids`, each with the value 0, behind the row (1, 10).
-fn holds<B: Backend>(alloc: Global, backend: &B, ids: &[i64]) -> Result<bool, AllocError> {
-    let mut rows = one(alloc, row(alloc, 1, 10)?)?;
-    for id in ids {
-        rows.push(row(alloc, *id, 0)?)?;
+fn replied<B: Backend>(alloc: Global, backend: &mut B, call: Call) -> Result<Reply, AllocError> {
+    match call {
+        Call::Insert(txn, id) => inserted(alloc, backend, txn, id),
+        Call::Commit(txn) => Ok(of_end(backend.commit(txn))),
+        Call::Rollback(txn) => Ok(of_end(backend.rollback(txn))),
+        Call::Restart => Ok(of_restart(backend.restart())),
+        Call::Dump => Ok(of_dump(&backend.dump(alloc)?)),
     }
-    Ok(backend.dump(alloc)? == one(alloc, rows)?)
+}
+
+// Whether the backend replies so to these calls.
+fn replies<B: Backend>(
+    alloc: Global,
+    backend: &mut B,
+    calls: &[(Call, Reply)],
+) -> Result<bool, AllocError> {
+    for (call, want) in calls {
+        if replied(alloc, backend, *call)? != *want {
+            return Ok(false);
+        }
+    }
+    Ok(true)
+}
+
+// The same of an engine whose table has one row.
+fn engine_replies(alloc: Global, calls: &[(Call, Reply)]) -> Result<bool, AllocError> {
+    let mut engine = engine(alloc)?;
+    replies(alloc, &mut engine, calls)
+}
+
+// The same of such an engine under the script of this act at its call with this number.
+fn script_replies(
+    alloc: Global,
+    call: u64,
+    act: Act,
+    calls: &[(Call, Reply)],
+) -> Result<bool, AllocError>
+    requires { call < 100 }
+{
+    let mut faulty = faulty(alloc, call, act)?;
+    replies(alloc, &mut faulty, calls)
 }
 
 #[test]
 fn a_transaction_of_three_statements(rt: HostRuntime) -> Result<(), Fail> {
-    let alloc = rt.alloc();
-    let mut engine = engine(alloc)?;
-    assert!(rt; inserts(alloc, &mut engine, 1, 5)?);
-    assert!(rt; reads(alloc, &mut engine, 10)?);
-    assert!(rt; inserts(alloc, &mut engine, 1, 6)?);
-    assert!(rt; holds(alloc, &engine, &[])?);
-    assert_eq!(rt; engine.commit(1), EndReply::Done);
-    assert!(rt; holds(alloc, &engine, &[5, 6])?);
+    let calls = [
+        (Call::Insert(1, 5), Reply::Counted(1)),
+        (Call::Insert(1, 1), Reply::Failed(RunError::DuplicateKey(1))),
+        (Call::Insert(1, 6), Reply::Counted(1)),
+        (Call::Dump, Reply::Rows(1)),
+        (Call::Commit(1), Reply::Ended),
+        (Call::Dump, Reply::Rows(3)),
+    ];
+    assert!(rt; engine_replies(rt.alloc(), &calls)?);
     Ok(())
 }
 
 #[test]
 fn a_second_writer_waits(rt: HostRuntime) -> Result<(), Fail> {
-    let alloc = rt.alloc();
-    let mut engine = engine(alloc)?;
-    assert!(rt; inserts(alloc, &mut engine, 1, 5)?);
-    let stmt = insert(alloc, 6, 0)?;
-    assert!(rt; engine.run(alloc, 2, &stmt) == RunReply::Blocked(one(alloc, 1)?));
-    assert_eq!(rt; engine.commit(1), EndReply::Done);
-    assert!(rt; inserts(alloc, &mut engine, 2, 6)?);
+    let calls = [
+        (Call::Insert(1, 5), Reply::Counted(1)),
+        (Call::Insert(2, 6), Reply::Blocked(Some(1))),
+        (Call::Commit(1), Reply::Ended),
+        (Call::Insert(2, 6), Reply::Counted(1)),
+    ];
+    assert!(rt; engine_replies(rt.alloc(), &calls)?);
     Ok(())
 }
 
 #[test]
 fn what_is_not_committed_is_undone(rt: HostRuntime) -> Result<(), Fail> {
-    let alloc = rt.alloc();
-    let mut engine = engine(alloc)?;
-    assert!(rt; inserts(alloc, &mut engine, 1, 5)?);
-    assert_eq!(rt; engine.rollback(1), EndReply::Done);
-    assert!(rt; inserts(alloc, &mut engine, 2, 5)?);
-    assert_eq!(rt; engine.restart(), Ok(0));
-    assert!(rt; inserts(alloc, &mut engine, 3, 5)?);
-    assert_eq!(rt; engine.commit(3), EndReply::Done);
-    assert!(rt; holds(alloc, &engine, &[5])?);
+    let calls = [
+        (Call::Insert(1, 5), Reply::Counted(1)),
+        (Call::Rollback(1), Reply::Ended),
+        (Call::Insert(2, 5), Reply::Counted(1)),
+        (Call::Restart, Reply::Told(0)),
+        (Call::Insert(3, 5), Reply::Counted(1)),
+        (Call::Commit(3), Reply::Ended),
+        (Call::Restart, Reply::Told(1)),
+        (Call::Dump, Reply::Rows(2)),
+    ];
+    assert!(rt; engine_replies(rt.alloc(), &calls)?);
     Ok(())
-}
-
-// What a backend that does this at its first call replies to an INSERT there.
-fn replies(alloc: Global, act: Act) -> Result<RunReply, AllocError> {
-    let mut faulty = faulty(alloc, 1, act)?;
-    let stmt = insert(alloc, 5, 0)?;
-    Ok(faulty.run(alloc, 1, &stmt))
 }
 
 #[test]
 fn lies_about_a_run(rt: HostRuntime) -> Result<(), Fail> {
     let alloc = rt.alloc();
-    let seven = one(alloc, one(alloc, Value::Int(7))?)?;
-    assert!(rt; replies(alloc, Act::Wrong(7))? == RunReply::Done(Answer::Rows(seven)));
-    assert!(rt; replies(alloc, Act::Drop(3))? == RunReply::Done(Answer::Count(3)));
-    assert!(rt; replies(alloc, Act::Fail)? == RunReply::Done(Answer::Failed(RunError::Overflow)));
-    assert!(rt; replies(alloc, Act::Position(3))? == RunReply::Done(Answer::Count(1)));
+    let run = Call::Insert(1, 5);
+    for (act, want) in [
+        (Act::Wrong(7), Reply::Rows(1)),
+        (Act::Drop(3), Reply::Counted(3)),
+        (Act::Early, Reply::Counted(1)),
+        (Act::Fail, Reply::Failed(RunError::Overflow)),
+        (Act::Position(3), Reply::Counted(1)),
+        (Act::Lose(When::After), Reply::Lost),
+    ] {
+        assert!(rt; script_replies(alloc, 1, act, &[(run, want)])?);
+    }
     Ok(())
 }
 
 #[test]
 fn lies_about_waits(rt: HostRuntime) -> Result<(), Fail> {
     let alloc = rt.alloc();
-    let named = RunReply::Blocked(one(alloc, 4)?);
-    assert!(rt; replies(alloc, Act::Block(one(alloc, 4)?))? == named);
-    let cycle = RunReply::Deadlock(one(alloc, 4)?);
-    assert!(rt; replies(alloc, Act::Deadlock(one(alloc, 4)?))? == cycle);
+    let run = Call::Insert(1, 5);
+    let block = Act::Block(one(alloc, 4)?);
+    assert!(rt; script_replies(alloc, 1, block, &[(run, Reply::Blocked(Some(4)))])?);
+    let deadlock = Act::Deadlock(one(alloc, 4)?);
+    assert!(rt; script_replies(alloc, 1, deadlock, &[(run, Reply::Deadlock(Some(4)))])?);
     Ok(())
 }
 
 #[test]
-fn commits_early(rt: HostRuntime) -> Result<(), Fail> {
-    let alloc = rt.alloc();
-    let mut faulty = faulty(alloc, 1, Act::Early)?;
-    assert!(rt; inserts(alloc, &mut faulty, 1, 5)?);
-    assert!(rt; holds(alloc, &faulty, &[5])?);
+fn acts_behind_the_back(rt: HostRuntime) -> Result<(), Fail> {
+    let early = [
+        (Call::Insert(1, 5), Reply::Counted(1)),
+        (Call::Dump, Reply::Rows(2)),
+    ];
+    assert!(rt; script_replies(rt.alloc(), 1, Act::Early, &early)?);
+    let position = [
+        (Call::Restart, Reply::Told(9)),
+        (Call::Restart, Reply::Told(0)),
+    ];
+    assert!(rt; script_replies(rt.alloc(), 1, Act::Position(9), &position)?);
     Ok(())
-}
-
-#[test]
-fn tells_a_wrong_position(rt: HostRuntime) -> Result<(), Fail> {
-    let mut faulty = faulty(rt.alloc(), 1, Act::Position(9))?;
-    assert_eq!(rt; faulty.restart(), Ok(9));
-    assert_eq!(rt; faulty.restart(), Ok(0));
-    Ok(())
-}
-
-// A backend that is lost at the commit of its first transaction, and what its restart tells.
-fn lost_at_commit(alloc: Global, when: When) -> Result<(EndReply, Result<u64, Lost>), AllocError> {
-    let mut faulty = faulty(alloc, 2, Act::Lose(when))?;
-    let _done = inserts(alloc, &mut faulty, 1, 5)?;
-    let committed = faulty.commit(1);
-    Ok((committed, faulty.restart()))
 }
 
 #[test]
 fn a_commit_in_doubt(rt: HostRuntime) -> Result<(), Fail> {
-    let alloc = rt.alloc();
-    let before = lost_at_commit(alloc, When::Before)?;
-    assert!(rt; before == (EndReply::Lost, Ok(0)));
-    let after = lost_at_commit(alloc, When::After)?;
-    assert!(rt; after == (EndReply::Lost, Ok(1)));
+    for (when, count) in [(When::Before, 0), (When::After, 1)] {
+        let calls = [
+            (Call::Insert(1, 5), Reply::Counted(1)),
+            (Call::Commit(1), Reply::Lost),
+            (Call::Restart, Reply::Told(count)),
+        ];
+        assert!(rt; script_replies(rt.alloc(), 2, Act::Lose(when), &calls)?);
+    }
     Ok(())
 }
 
 #[test]
 fn a_loss_lasts_until_a_restart(rt: HostRuntime) -> Result<(), Fail> {
-    let alloc = rt.alloc();
-    for when in [When::Before, When::After] {
-        let mut faulty = faulty(alloc, 1, Act::Lose(when))?;
-        let stmt = insert(alloc, 5, 0)?;
-        assert!(rt; faulty.run(alloc, 1, &stmt) == RunReply::Lost);
-        assert!(rt; faulty.run(alloc, 1, &stmt) == RunReply::Lost);
-        assert_eq!(rt; faulty.commit(1), EndReply::Lost);
-        assert_eq!(rt; faulty.rollback(1), EndReply::Lost);
-        assert_eq!(rt; faulty.restart(), Ok(0));
-        assert!(rt; inserts(alloc, &mut faulty, 1, 5)?);
-    }
+    let calls = [
+        (Call::Insert(1, 5), Reply::Lost),
+        (Call::Insert(1, 5), Reply::Lost),
+        (Call::Commit(1), Reply::Lost),
+        (Call::Rollback(1), Reply::Lost),
+        (Call::Restart, Reply::Told(0)),
+        (Call::Insert(1, 5), Reply::Counted(1)),
+    ];
+    assert!(rt; script_replies(rt.alloc(), 1, Act::Lose(When::Before), &calls)?);
     Ok(())
 }
 
 #[test]
 fn losses_at_ends(rt: HostRuntime) -> Result<(), Fail> {
     for when in [When::Before, When::After] {
-        let mut at_rollback = faulty(rt.alloc(), 1, Act::Lose(when))?;
-        assert_eq!(rt; at_rollback.rollback(1), EndReply::Lost);
-        assert_eq!(rt; at_rollback.restart(), Ok(0));
-        assert_eq!(rt; at_rollback.rollback(1), EndReply::Done);
-        let mut at_restart = faulty(rt.alloc(), 1, Act::Lose(when))?;
-        assert_eq!(rt; at_restart.restart(), Err(Lost));
-        assert_eq!(rt; at_restart.restart(), Ok(0));
+        let rollback = [
+            (Call::Rollback(1), Reply::Lost),
+            (Call::Restart, Reply::Told(0)),
+            (Call::Rollback(1), Reply::Ended),
+        ];
+        assert!(rt; script_replies(rt.alloc(), 1, Act::Lose(when), &rollback)?);
+        let restart = [
+            (Call::Restart, Reply::Lost),
+            (Call::Restart, Reply::Told(0)),
+        ];
+        assert!(rt; script_replies(rt.alloc(), 1, Act::Lose(when), &restart)?);
     }
     Ok(())
 }
@@ -322,9 +424,11 @@ fn a_table_of_many_rows(rt: HostRuntime) -> Result<(), Fail> {
     let alloc = rt.alloc();
     let rows = one(alloc, many_rows(alloc, 1500)?)?;
     let mut engine = OneEngine::new(alloc, &catalog(alloc)?, &rows)?;
-    assert!(rt; inserts(alloc, &mut engine, 1, 1500)?);
-    assert_eq!(rt; engine.commit(1), EndReply::Done);
-    let more = one(alloc, many_rows(alloc, 1501)?)?;
-    assert!(rt; engine.dump(alloc)? == more);
+    let calls = [
+        (Call::Insert(1, 1500), Reply::Counted(1)),
+        (Call::Commit(1), Reply::Ended),
+        (Call::Dump, Reply::Rows(1501)),
+    ];
+    assert!(rt; replies(alloc, &mut engine, &calls)?);
     Ok(())
 }
