@@ -2,12 +2,11 @@
 use Rattle.std.proofs.Common.{◌≡◌, ℕ, ◌+◌, ◌*◌, ◌<◌, Bool, true, false, not, ◌&&◌, ◌||◌, ◌==◌, nat_eq, cond, if◌then◌else◌, Option, Some, None, unwrap_or, option_map, option_and_then, List, [], ◌∷◌, length, map, filter, refl, ap, sym, ◌∙◌}
 use Rattle.std.specs.Map.{lookup}
 use Rattle.std.proofs.lemmas.Bool.Decides.{Decides-eqb}
-use Rattle.hr_engine.specs.Journal.{Call, Ran, Journal}
+use Rattle.hr_engine.specs.Journal.{Call, Journal}
 use Rattle.hr_engine.specs.Attempts.{RanStmt, attempt, next_attempt, answers, is_running}
 use Rattle.hr_engine.specs.Effects.{effect_of}
 use Rattle.hr_engine.specs.Waits.{wait, next_wait, standing, next_standing, if_all}
 use Rattle.hr_base.specs.Lists.{has, is_empty, once}
-use Rattle.hr_engine.specs.declared.reply.RunReply.TheVariants as run
 use Rattle.hr_history.specs.declared.entry.Event.{Event}
 use Rattle.hr_history.specs.declared.entry.Event.TheVariants as event
 use Rattle.hr_history.specs.declared.job.Job.{Job}

@@ -1,5 +1,5 @@
 -- What a call makes of a transaction and of a replica doesn't depend on which statement was run.
-use Rattle.std.proofs.Common.{◌≡◌, ℕ, ◌+◌, ◌*◌, ◌<◌, Bool, true, false, not, ◌&&◌, ◌==◌, if◌then◌else◌, Option, Some, None, Ok, Err, is_some, option_map, List, [], ◌∷◌, ◌++◌, length, refl, ap, sym, ◌∙◌}
+use Rattle.std.proofs.Common.{◌≡◌, ℕ, ◌+◌, ◌*◌, ◌<◌, Bool, true, false, not, ◌&&◌, ◌==◌, if◌then◌else◌, Option, Some, None, is_some, option_map, List, [], ◌∷◌, ◌++◌, length, refl, ap, sym, ◌∙◌}
 use Rattle.std.proofs.lemmas.List.{length-append, map-append}
 use Rattle.hr_base.specs.Lists.{when}
 use Rattle.hr_base.specs.Counters.{shown}
@@ -12,7 +12,6 @@ use Rattle.hr_engine.specs.Attempts.{RanStmt, attempt, next_attempt, answers, st
 use Rattle.hr_engine.specs.Base as base
 use Rattle.hr_engine.specs.Waits.{next_wait, next_standing}
 use Rattle.hr_engine.specs.declared.reply.RunReply.TheVariants as run
-use Rattle.hr_engine.specs.declared.reply.EndReply.TheVariants as end
 use Rattle.hr_history.specs.declared.entry.Event.{Event}
 use Rattle.hr_history.specs.declared.entry.Event.TheVariants as event
 use Rattle.hr_history.specs.declared.job.Job.{Job}

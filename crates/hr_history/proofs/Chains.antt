@@ -1,5 +1,5 @@
 -- Who is reached by steps is reached by a chain of waits.
-use Rattle.std.proofs.Common.{◌≡◌, ℕ, zero, suc, Bool, true, false, not, ◌&&◌, ◌||◌, ◌==◌, cond, List, [], ◌∷◌, ◌++◌, filter, flat_map, ◌⊎◌, inl, inr, ⊎_elim, IsTrue, refl, sym, ◌∙◌}
+use Rattle.std.proofs.Common.{◌≡◌, ℕ, zero, suc, Bool, true, false, not, ◌&&◌, ◌==◌, List, [], ◌∷◌, ◌++◌, flat_map, ◌⊎◌, inl, inr, ⊎_elim, IsTrue, refl, sym, ◌∙◌}
 use Rattle.std.proofs.lemmas.Bool.Decides.{Decides-eqb}
 use Rattle.std.proofs.lemmas.List.Folds.{list_any-append}
 use Rattle.hr_base.specs.Lists.{has, once, is_empty, is_ascending}
