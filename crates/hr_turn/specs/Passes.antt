@@ -1,5 +1,5 @@
 -- What callers see of a lock and of a pass.
-use Rattle.std.specs.Prelude.{◌≡◌, true, false, None, [], ◌∷◌}
+use Rattle.std.specs.Prelude.{◌≡◌, ℕ, ◌%◌, ◌^◌, true, false, Some, None, [], ◌∷◌}
 use Rattle.atomic_table.specs.Seated.{TableId}
 use Rattle.hr_turn.specs.declared.view.View.{View}
 use Rattle.hr_turn.specs.declared.pass.Pass.{Pass}
@@ -20,6 +20,10 @@ module _ {S E : Type 0} where
   -- the pass may enter: it has no ticket, and no value
   abbrev pub IsFree : Pass S E → Type 0
   IsFree pass = (pass.seat.me.1 ≡ []) × ((view_of pass).ticket ≡ None) × ((view_of pass).inside ≡ false) × ((view_of pass).spent ≡ false)
+
+  -- the pass has this ticket, as the words tell it
+  abbrev pub IsWaiting : Pass S E → ℕ → Type 0
+  IsWaiting pass ticket = (pass.seat.me.1 ≡ []) × ((t : ℕ) × ((view_of pass).ticket ≡ Some t) × (ticket ≡ t % 2 ^ 64)) × ((view_of pass).inside ≡ false) × ((view_of pass).spent ≡ false)
 
   -- the pass has the value, and the slot is empty
   abbrev pub IsIn : Pass S E → Type 0

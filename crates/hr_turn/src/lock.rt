@@ -3,7 +3,7 @@ ghost use Rattle.std.specs.Prelude.{◌≡◌, ℕ, ◌+◌, ◌%◌, ◌^◌, �
 ghost use Rattle.hr_turn.specs.Entries.{Begins, Each, calls_by};
 ghost use Rattle.hr_turn.specs.Views.{first_view, with_ticket, inside_at, outside_after, root_after_split, split_off, root_after_join, settled_view};
 ghost use Rattle.hr_turn.specs.Steps.{AreBack, TakesTurn};
-ghost use Rattle.hr_turn.specs.Passes.{id_of, lock_of, view_of, IsFree, IsIn};
+ghost use Rattle.hr_turn.specs.Passes.{id_of, lock_of, view_of, IsFree, IsWaiting, IsIn};
 
 use crate::kept::Kept;
 use crate::pass::{Pass, TurnLock};
@@ -58,15 +58,15 @@ impl<S: Kept> TurnLock<S> {
         requires lock { lock_of pass.old ≡ id_of self.now }
         requires free { IsFree pass.old }
         ensures lock { lock_of pass.new ≡ lock_of pass.old }
-        ensures drawn { (t : ℕ) × (result ≡ t % 2 ^ 64) × (pass.new.seat.me ≡ (with_ticket (view_of pass.old) t, [])) }
+        ensures waiting { IsWaiting pass.new result }
+        ensures view { (t : ℕ) × (view_of pass.new ≡ with_ticket (view_of pass.old) t) }
     {
         self.table.shared.fetch_add::<Draw>(&mut pass.seat, NEXT, 1)
     }
 
     fn await_turn<R: Wait>(&self, rt: &R, pass: &mut Pass<S>, ticket: u64)
         requires lock { lock_of pass.old ≡ id_of self.now }
-        requires ticket { (t : ℕ) × ((view_of pass.old).ticket ≡ Some t) × (ticket ≡ t % 2 ^ 64) }
-        requires slots { pass.old.seat.me.1 ≡ [] }
+        requires waiting { IsWaiting pass.old ticket }
         ensures lock { lock_of pass.new ≡ lock_of pass.old }
         ensures turn { TakesTurn S.entries S.caller S.fixed pass.old.seat.me pass.new.seat.me }
     {
@@ -83,7 +83,7 @@ impl<S: Kept> TurnLock<S> {
     // Whether it is the pass's turn. Then the slot is the pass's own.
     fn look(&self, pass: &mut Pass<S>, ticket: u64) -> bool
         requires lock { lock_of pass.old ≡ id_of self.now }
-        requires ticket { (t : ℕ) × ((view_of pass.old).ticket ≡ Some t) × (ticket ≡ t % 2 ^ 64) }
+        requires waiting { IsWaiting pass.old ticket }
         ensures lock { lock_of pass.new ≡ lock_of pass.old }
         ensures turn { MatchBool result (TakesTurn S.entries S.caller S.fixed pass.old.seat.me pass.new.seat.me) (pass.new.seat.me ≡ pass.old.seat.me) }
     {
