@@ -1,5 +1,5 @@
 -- The step of one pass keeps the rule, where its view changes in one of the ways that a turn has.
-use Rattle.std.proofs.Common.{◌≡◌, ◌≢◌, ℕ, ◌+◌, ◌%◌, ◌^◌, ◌<◌, ◌≤◌, ◌⊎◌, Bool, true, false, true≢false, not, is_some, Option, Some, None, List, [], ◌∷◌, ◌++◌, length, set, count_by, refl, sym, ap, ◌∙◌, subst, inl, inr, ⊎_elim, arith, append-nil, length-set}
+use Rattle.std.proofs.Common.{◌≡◌, ◌≢◌, ℕ, ◌+◌, ◌%◌, ◌^◌, ◌≤◌, ◌⊎◌, Bool, true, false, true≢false, not, is_some, Option, Some, None, List, [], ◌∷◌, ◌++◌, length, set, count_by, refl, sym, ap, ◌∙◌, subst, inl, inr, ⊎_elim, arith, append-nil, length-set}
 use native.Mathlib.Decide.{ℕ_discrete}
 use mathlib.Core.Logic.{dite}
 use mathlib.Core.Option as m
@@ -80,21 +80,21 @@ module _ {S E : Type 0} (entries : S → List E) (caller : E → ℕ) (fixed : S
     new_apart j t u n at mine theirs = ⊎_elim
         (λ (e : v.ticket ≡ Some t). n (h.apart j id t u v at c.there theirs e))
         (λ (far : h.drawn ≤ t). ⊎_elim
-            (λ (e : u ≡ spent_view). let none : None ≡ Some t = sym (ap (λ (x : View E). x.ticket) e) ∙ theirs in absurd (cc))
-            (λ (k : Knows caller about h.log h.served h.drawn j u). let below = (k.ticket t theirs).1 in absurd (omega arith))
-            (h.passes j u at))
+        (λ (e : u ≡ spent_view). let none : None ≡ Some t = sym (ap (λ (x : View E). x.ticket) e) ∙ theirs in absurd (cc))
+        (λ (k : Knows caller about h.log h.served h.drawn j u). let below = (k.ticket t theirs).1 in absurd (omega arith))
+        (h.passes j u at))
         (c.ticket t mine)
 
     apart' : (i j t : ℕ) (x y : View E) → IsAt (set s.views id w) i x → IsAt (set s.views id w) j y → x.ticket ≡ Some t → y.ticket ≡ Some t → i ≡ j
     apart' i j t x y at there first second = ⊎_elim
         (λ (a : (i ≡ id) × (w ≡ x)). ⊎_elim
-            (λ (b : (j ≡ id) × (w ≡ y)). a.0 ∙ sym b.0)
-            (λ (b : (j ≢ id) × IsAt s.views j y). absurd (new_apart j t y b.0 b.1 (ap (λ (z : View E). z.ticket) a.1 ∙ first) second))
-            (at_set s.views id j w y there))
+        (λ (b : (j ≡ id) × (w ≡ y)). a.0 ∙ sym b.0)
+        (λ (b : (j ≢ id) × IsAt s.views j y). absurd (new_apart j t y b.0 b.1 (ap (λ (z : View E). z.ticket) a.1 ∙ first) second))
+        (at_set s.views id j w y there))
         (λ (a : (i ≢ id) × IsAt s.views i x). ⊎_elim
-            (λ (b : (j ≡ id) × (w ≡ y)). absurd (new_apart i t x a.0 a.1 (ap (λ (z : View E). z.ticket) b.1 ∙ second) first))
-            (λ (b : (j ≢ id) × IsAt s.views j y). h.apart i j t x y a.1 b.1 first second)
-            (at_set s.views id j w y there))
+        (λ (b : (j ≡ id) × (w ≡ y)). absurd (new_apart i t x a.0 a.1 (ap (λ (z : View E). z.ticket) b.1 ∙ second) first))
+        (λ (b : (j ≢ id) × IsAt s.views j y). h.apart i j t x y a.1 b.1 first second)
+        (at_set s.views id j w y there))
         (at_set s.views id i w x at)
 
     whole' : (j : ℕ) × (u : View E) × IsAt (set s.views id w) j u × (u.spent ≡ false) × (u.seen ≡ h.log ++ more)
@@ -108,8 +108,8 @@ module _ {S E : Type 0} (entries : S → List E) (caller : E → ℕ) (fixed : S
             let all : h.log ≡ h.log ++ more = sym (ap (λ (l : List E). h.log ++ l) none ∙ append-nil h.log) in
             let t = h.whole in
             dite (ℕ_discrete t.0 id)
-                (λ is. mine (e ∙ ap (λ (x : View E). x.seen) (at_same s.views id v t.1 c.there (subst (λ (k : ℕ). IsAt s.views k t.1) is t.2)) ∙ t.4 ∙ all))
-                (λ n. (t.0, t.1, set_else s.views id t.0 w n ∙ t.2, t.3, t.4 ∙ all))
+            (λ is. mine (e ∙ ap (λ (x : View E). x.seen) (at_same s.views id v t.1 c.there (subst (λ (k : ℕ). IsAt s.views k t.1) is t.2)) ∙ t.4 ∙ all))
+            (λ n. (t.0, t.1, set_else s.views id t.0 w n ∙ t.2, t.3, t.4 ∙ all))
 
     -- a pass that was taken back isn't the changed one
     back_else : (p : ℕ × List E) → IsAt s.views p.0 spent_view → p.0 ≢ id

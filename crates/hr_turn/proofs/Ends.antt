@@ -1,14 +1,13 @@
 -- The lock is made, and closed.
-use Rattle.std.proofs.Common.{◌≡◌, ◌≢◌, ℕ, zero, suc, ◌+◌, ◌%◌, ◌^◌, ◌<◌, ◌≤◌, ◌⊎◌, Bool, true, false, true≢false, not, Option, Some, None, List, [], ◌∷◌, ◌++◌, length, map, count_by, refl, sym, ap, ◌∙◌, subst, inl, inr, ⊎_elim, arith}
+use Rattle.std.proofs.Common.{◌≡◌, ℕ, zero, suc, ◌⊎◌, false, true≢false, not, Option, Some, List, [], ◌∷◌, refl, sym, ap, ◌∙◌, subst, inl, inr, ⊎_elim, arith}
 use mathlib.Core.Option as m
 use lib.ListN.{get_elem?}
 use Rattle.atomic_table.specs.Table.{State, opening, Final, Seen}
 use Rattle.hr_turn.specs.declared.view.View.{View}
-use Rattle.hr_turn.specs.Entries.{Begins, Each, calls_by}
 use Rattle.hr_turn.specs.Views.{spent_view, first_view}
-use Rattle.hr_turn.specs.Turns.{IsAt, Differ, IsHome, IsOut, Knows, IsBack, IsRoot, InTurns}
-use Rattle.hr_turn.proofs.Lists.{at_below, at_same, count_alone}
-use Rattle.hr_turn.proofs.Change.{has_ticket, is_live, known}
+use Rattle.hr_turn.specs.Turns.{IsAt, IsHome, IsOut, Knows, InTurns}
+use Rattle.hr_turn.proofs.Lists.{at_same, count_alone}
+use Rattle.hr_turn.proofs.Change.{is_live, known}
 
 module _ {S E : Type 0} (entries : S → List E) (caller : E → ℕ) (fixed : S → List ℕ) where
   pub opens : (value : S) → entries value ≡ [] → InTurns entries caller fixed (fixed value) (opening (0 ∷ 0 ∷ []) (Some value ∷ []) (first_view (fixed value)))

@@ -1,14 +1,13 @@
 -- A pass is taken back by the root.
-use Rattle.std.proofs.Common.{◌≡◌, ◌≢◌, ℕ, ◌+◌, ◌-◌, ◌%◌, ◌^◌, ◌<◌, ◌≤◌, ◌⊎◌, Bool, true, false, true≢false, not, Option, Some, None, List, [], ◌∷◌, ◌++◌, length, set, count_by, refl, sym, ap, ◌∙◌, subst, inl, inr, ⊎_elim, arith, length-set}
+use Rattle.std.proofs.Common.{◌≡◌, ◌≢◌, ℕ, ◌⊎◌, Bool, false, true≢false, not, Option, Some, None, List, length, set, refl, sym, ap, ◌∙◌, subst, inl, inr, ⊎_elim, arith, length-set}
 use native.Mathlib.Decide.{ℕ_discrete}
 use mathlib.Core.Logic.{dite}
-use mathlib.Core.Option as m
 use Rattle.atomic_table.specs.Table.{State, Joins}
 use Rattle.atomic_table.proofs.Lists.{at_set, set_here, set_else}
 use Rattle.hr_turn.specs.declared.view.View.{View}
-use Rattle.hr_turn.specs.Entries.{Begins, Each, calls_by}
+use Rattle.hr_turn.specs.Entries.{Begins}
 use Rattle.hr_turn.specs.Views.{spent_view, root_after_join, longer, shorter}
-use Rattle.hr_turn.specs.Turns.{IsAt, Differ, IsHome, IsOut, Knows, IsBack, IsRoot, InTurns}
+use Rattle.hr_turn.specs.Turns.{IsAt, IsHome, IsOut, Knows, IsBack, IsRoot, InTurns}
 use Rattle.hr_turn.proofs.Lists.{begins_all, begins_longer, begins_whole, longer_cases, at_below, at_same, each_map, weight, count_set, count_some, calls_between}
 use Rattle.hr_turn.proofs.Change.{has_ticket, is_live, known}
 
@@ -71,9 +70,9 @@ module _ {S E : Type 0} (entries : S → List E) (caller : E → ℕ) (fixed : S
     who P root spent third j u is = ⊎_elim
         (λ (t : (j ≡ other) × (spent_view ≡ u)). subst (λ (x : ℕ × View E). P x.0 x.1) (λ i. (sym t.0 i, t.1 i)) spent)
         (λ (t : (j ≢ other) × IsAt halfway j u). ⊎_elim
-            (λ (b : (j ≡ 0) × (both ≡ u)). subst (λ (x : ℕ × View E). P x.0 x.1) (λ i. (sym b.0 i, b.1 i)) root)
-            (λ (b : (j ≢ 0) × IsAt s.views j u). third j u b.0 t.0 b.1)
-            (at_set s.views 0 j both u t.1))
+        (λ (b : (j ≡ 0) × (both ≡ u)). subst (λ (x : ℕ × View E). P x.0 x.1) (λ i. (sym b.0 i, b.1 i)) root)
+        (λ (b : (j ≢ 0) × IsAt s.views j u). third j u b.0 t.0 b.1)
+        (at_set s.views 0 j both u t.1))
         (at_set halfway other j spent_view u is)
 
     root_there : IsAt views 0 both
@@ -139,8 +138,8 @@ module _ {S E : Type 0} (entries : S → List E) (caller : E → ℕ) (fixed : S
     whole' = dite (ℕ_discrete h.whole.0 0)
         (λ is. root_has (inl (seen_by 0 v at is)))
         (λ n. dite (ℕ_discrete h.whole.0 other)
-            (λ is. root_has (inr (seen_by other w there is)))
-            (λ m. (h.whole.0, h.whole.1, third_there h.whole.0 h.whole.1 n m h.whole.2, h.whole.3, h.whole.4)))
+        (λ is. root_has (inr (seen_by other w there is)))
+        (λ m. (h.whole.0, h.whole.1, third_there h.whole.0 h.whole.1 n m h.whole.2, h.whole.3, h.whole.4)))
       where
         seen_by : (j : ℕ) (u : View E) → IsAt s.views j u → h.whole.0 ≡ j → u.seen ≡ h.log
         seen_by j u is e = ap (λ (x : View E). x.seen) (at_same s.views j u h.whole.1 is (subst (λ (n : ℕ). IsAt s.views n h.whole.1) e h.whole.2)) ∙ h.whole.4
@@ -211,4 +210,4 @@ module _ {S E : Type 0} (entries : S → List E) (caller : E → ℕ) (fixed : S
       let is : id ≡ 0 = sym (known entries caller fixed about s h id v at live).number ∙ root in
       let before : IsAt s.views other w = sym (set_else s.views id other (root_after_join v w) apart) ∙ there in
       subst (λ (n : ℕ). Holds record { words = s.words; homes = s.homes; views = set (set s.views n (root_after_join v w)) other spent_view }) (sym is)
-          (join_keeps s h v w other (subst (λ (n : ℕ). IsAt s.views n v) is at) before (λ e. apart (e ∙ sym is)) live out live_other out_other no_ticket)
+      (join_keeps s h v w other (subst (λ (n : ℕ). IsAt s.views n v) is at) before (λ e. apart (e ∙ sym is)) live out live_other out_other no_ticket)

@@ -1,11 +1,9 @@
 -- Beginnings of lists, the entries of one caller, and views counted.
-use Rattle.std.proofs.Common.{◌≡◌, ◌≢◌, ℕ, zero, suc, ◌+◌, ◌<◌, ◌≤◌, ◌⊎◌, Bool, true, false, cond, eqb, nat_le, if◌then◌else◌, List, [], ◌∷◌, ◌++◌, length, set, filter, count_by, zero-add, refl, sym, ap, ◌∙◌, subst, inl, inr, eq-eqb, ne_eqb, arith, append_assoc, append-nil, length-append}
-use Rattle.std.proofs.lemmas.List.{append_cancel_left}
+use Rattle.std.proofs.Common.{◌≡◌, ◌≢◌, ℕ, zero, suc, ◌+◌, ◌<◌, ◌≤◌, ◌⊎◌, Bool, true, false, cond, eqb, nat_le, if◌then◌else◌, List, [], ◌∷◌, ◌++◌, length, set, count_by, zero-add, refl, sym, ap, ◌∙◌, inl, inr, eq-eqb, ne_eqb, arith, append_assoc, append-nil, length-append}
 use Rattle.std.proofs.lemmas.List.Elements.{filter-append}
 use Rattle.std.proofs.lemmas.List.Sums.{sum_by-append}
 use Rattle.std.proofs.lemmas.Bool.Decides.{nat_tests}
-use mathlib.Core.Option.{some, some-injective, some-ne-none}
-use lib.ListN.{get_elem?}
+use mathlib.Core.Option.{some-injective, some-ne-none}
 use Rattle.hr_turn.specs.Entries.{Begins, Each, calls_by}
 use Rattle.hr_turn.specs.Views.{longer, shorter}
 use Rattle.hr_turn.specs.Turns.{IsAt}

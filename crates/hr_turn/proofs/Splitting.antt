@@ -1,15 +1,13 @@
 -- A pass is split off the root.
-use Rattle.std.proofs.Common.{◌≡◌, ◌≢◌, ℕ, ◌+◌, ◌%◌, ◌^◌, ◌<◌, ◌≤◌, ◌⊎◌, Bool, true, false, true≢false, Option, Some, None, List, [], ◌∷◌, ◌++◌, length, set, count_by, refl, sym, ap, ◌∙◌, subst, inl, inr, ⊎_elim, arith, length-append, length-set}
+use Rattle.std.proofs.Common.{◌≡◌, ◌≢◌, ℕ, ◌+◌, ◌^◌, ◌<◌, ◌⊎◌, false, true≢false, Option, Some, List, [], ◌∷◌, ◌++◌, length, set, refl, sym, ap, ◌∙◌, subst, inl, inr, ⊎_elim, arith, length-append, length-set}
 use native.Mathlib.Decide.{ℕ_discrete}
 use mathlib.Core.Logic.{dite}
-use mathlib.Core.Option as m
 use Rattle.atomic_table.specs.Table.{State, Splits}
-use Rattle.atomic_table.proofs.Lists.{at_set, set_here, set_else, at_longer, at_last}
+use Rattle.atomic_table.proofs.Lists.{at_set, set_here, set_else, at_longer}
 use Rattle.hr_turn.specs.declared.view.View.{View}
-use Rattle.hr_turn.specs.Entries.{Begins, Each, calls_by}
 use Rattle.hr_turn.specs.Views.{spent_view, root_after_split, split_off}
-use Rattle.hr_turn.specs.Turns.{IsAt, Differ, IsHome, IsOut, Knows, IsBack, IsRoot, InTurns}
-use Rattle.hr_turn.proofs.Lists.{at_below, at_same, at_end, each_map, weight, count_set, count_last, calls_none}
+use Rattle.hr_turn.specs.Turns.{IsAt, IsHome, IsOut, Knows, IsBack, IsRoot, InTurns}
+use Rattle.hr_turn.proofs.Lists.{at_below, at_same, at_end, each_map, count_set, count_last, calls_none}
 use Rattle.hr_turn.proofs.Change.{has_ticket, is_live, known}
 
 module _ {S E : Type 0} (entries : S → List E) (caller : E → ℕ) (fixed : S → List ℕ) (about : List ℕ) where
@@ -40,11 +38,11 @@ module _ {S E : Type 0} (entries : S → List E) (caller : E → ℕ) (fixed : S
         → (j : ℕ) (u : View E) → IsAt (set s.views 0 (root_after_split v) ++ split_off v ∷ []) j u → P j u
     who P root other new j u there = ⊎_elim
         (λ (before : IsAt (set s.views 0 (root_after_split v)) j u). ⊎_elim
-            (λ (t : (j ≡ 0) × (root_after_split v ≡ u)). subst (λ (x : ℕ × View E). P x.0 x.1) (λ i. (sym t.0 i, t.1 i)) root)
-            (λ (t : (j ≢ 0) × IsAt s.views j u). other j u t.0 t.1)
-            (at_set s.views 0 j (root_after_split v) u before))
+        (λ (t : (j ≡ 0) × (root_after_split v ≡ u)). subst (λ (x : ℕ × View E). P x.0 x.1) (λ i. (sym t.0 i, t.1 i)) root)
+        (λ (t : (j ≢ 0) × IsAt s.views j u). other j u t.0 t.1)
+        (at_set s.views 0 j (root_after_split v) u before))
         (λ (t : (j ≡ length (set s.views 0 (root_after_split v))) × (split_off v ≡ u)).
-            subst (λ (x : ℕ × View E). P x.0 x.1) (λ i. (sym (t.0 ∙ length-set s.views 0 (root_after_split v)) i, t.1 i)) new)
+        subst (λ (x : ℕ × View E). P x.0 x.1) (λ i. (sym (t.0 ∙ length-set s.views 0 (root_after_split v)) i, t.1 i)) new)
         (at_end (set s.views 0 (root_after_split v)) (split_off v) u j there)
 
     stays : (j : ℕ) (u : View E) → j ≢ 0 → IsAt s.views j u → IsAt (set s.views 0 (root_after_split v) ++ split_off v ∷ []) j u
@@ -83,9 +81,9 @@ module _ {S E : Type 0} (entries : S → List E) (caller : E → ℕ) (fixed : S
           nobody = who (λ j u. u.inside ≡ false) (p.nobody 0 v at) (λ j u n there. p.nobody j u there) refl;
         })
         (λ (p : IsOut entries caller fixed s). dite (ℕ_discrete p.who 0)
-            (λ is. let same = at_same s.views 0 p.view v (subst (λ (j : ℕ). IsAt s.views j p.view) is p.there) at in
-                inr record { slot = p.slot; who = 0; view = root_after_split v; there = root_there; inside = ap (λ (x : View E). x.inside) (sym same) ∙ p.inside })
-            (λ n. inr record { slot = p.slot; who = p.who; view = p.view; there = stays p.who p.view n p.there; inside = p.inside }))
+        (λ is. let same = at_same s.views 0 p.view v (subst (λ (j : ℕ). IsAt s.views j p.view) is p.there) at in
+        inr record { slot = p.slot; who = 0; view = root_after_split v; there = root_there; inside = ap (λ (x : View E). x.inside) (sym same) ∙ p.inside })
+        (λ n. inr record { slot = p.slot; who = p.who; view = p.view; there = stays p.who p.view n p.there; inside = p.inside }))
         h.place
 
     passes' : (j : ℕ) (u : View E) → IsAt (set s.views 0 (root_after_split v) ++ split_off v ∷ []) j u → (u ≡ spent_view) ⊎ Knows caller about h.log h.served h.drawn j u
@@ -149,4 +147,4 @@ module _ {S E : Type 0} (entries : S → List E) (caller : E → ℕ) (fixed : S
   splits id v root live room s h at =
       let is : id ≡ 0 = sym (known entries caller fixed about s h id v at live).number ∙ root in
       subst (λ (n : ℕ). Holds record { words = s.words; homes = s.homes; views = set s.views n (root_after_split v) ++ split_off v ∷ [] }) (sym is)
-          (split_keeps s h v (subst (λ (n : ℕ). IsAt s.views n v) is at) live room)
+      (split_keeps s h v (subst (λ (n : ℕ). IsAt s.views n v) is at) live room)

@@ -1,19 +1,19 @@
 -- The four steps on words: a ticket is drawn, the pass looks whose turn it is, the next is served, and the root settles a join.
-use Rattle.std.proofs.Common.{◌≡◌, ◌≢◌, ℕ, ◌+◌, ◌%◌, ◌^◌, ◌<◌, ◌≤◌, ◌⊎◌, Bool, true, false, true≢false, Option, Some, None, List, [], ◌∷◌, ◌++◌, length, set, count_by, slice_index, refl, sym, ap, ◌∙◌, subst, inl, inr, ⊎_elim, arith, append-nil}
+use Rattle.std.proofs.Common.{◌≡◌, ◌≢◌, ℕ, ◌+◌, ◌%◌, ◌^◌, ◌<◌, ◌≤◌, ◌⊎◌, Bool, true, false, true≢false, Option, Some, None, List, [], ◌∷◌, ◌++◌, set, slice_index, refl, sym, ap, ◌∙◌, subst, inl, inr, ⊎_elim, arith, append-nil}
 use Rattle.std.proofs.Math.Nat.{mod-add-mod}
 use native.Mathlib.Decide.{ℕ_discrete}
 use mathlib.Core.Logic.{dite}
 use mathlib.Core.Option as m
 use lib.ListN.{get_elem?}
-use Rattle.atomic_table.specs.Table.{State, Me, Step, Act, Valid, step, keeps, takes, gives, stepped, put_back, rest, carried_after, Allows}
+use Rattle.atomic_table.specs.Table.{State, Me, Act, Valid, step, keeps, takes, gives, stepped, put_back, rest, carried_after, Allows}
 use Rattle.atomic_table.proofs.Lists.{at_set, set_here, set_else, one_turn}
 use Rattle.hr_turn.specs.declared.view.View.{View}
 use Rattle.hr_turn.specs.Entries.{Begins, Each, calls_by}
 use Rattle.hr_turn.specs.Views.{spent_view, with_ticket, inside_at, outside_after, settled_view}
-use Rattle.hr_turn.specs.Turns.{IsAt, Differ, IsHome, IsOut, Knows, IsBack, IsRoot, InTurns}
+use Rattle.hr_turn.specs.Turns.{IsAt, IsHome, IsOut, Knows, IsRoot, InTurns}
 use Rattle.hr_turn.specs.Steps.{AreBack, Draws, TakesTurn, Looks, Serves, Settles}
 use Rattle.hr_turn.proofs.Lists.{begins_all, begins_then, at_below, at_same, each_map, weight, count_few, calls-append, calls_own}
-use Rattle.hr_turn.proofs.Change.{has_ticket, Rule, known, Change, changed}
+use Rattle.hr_turn.proofs.Change.{has_ticket, known, Change, changed}
 
 module _ {S E : Type 0} (entries : S → List E) (caller : E → ℕ) (fixed : S → List ℕ) (about : List ℕ) where
   abbrev T : Type 0
@@ -21,6 +21,13 @@ module _ {S E : Type 0} (entries : S → List E) (caller : E → ℕ) (fixed : S
 
   abbrev Holds : T → Type 0
   Holds = InTurns entries caller fixed about
+
+  -- each ticket of a pass is out
+  is_out : (s : T) (h : Holds s) (j t : ℕ) (u : View E) → IsAt s.views j u → u.ticket ≡ Some t → (h.served ≤ t) × (t < h.drawn)
+  is_out s h j t u at e = ⊎_elim
+      (λ (g : u ≡ spent_view). let no : None ≡ Some t = sym (ap (λ (x : View E). x.ticket) g) ∙ e in let none : ⊥ = cc in absurd none)
+      (λ (g : Knows caller about h.log h.served h.drawn j u). g.ticket t e)
+      (h.passes j u at)
 
   module _ (s : T) (h : Holds s) (id : ℕ) (v : View E) (at : IsAt s.views id v) where
     -- nobody else comes in where this view isn't inside
@@ -77,7 +84,7 @@ module _ {S E : Type 0} (entries : S → List E) (caller : E → ℕ) (fixed : S
         own = tt;
         out = let none : weight has_ticket v ≡ 0 = ap (λ (o : Option ℕ). weight has_ticket (record v { ticket = o })) free in omega arith;
         drawn_more = omega arith;
-        unserved = λ j t u n there e. ⊎_elim (λ (g : u ≡ spent_view). let no : None ≡ Some t = sym (ap (λ (x : View E). x.ticket) g) ∙ e in absurd (cc)) (λ (g : Knows caller about h.log h.served h.drawn j u). (g.ticket t e).0) (h.passes j u there);
+        unserved = λ j t u _ there e. (is_out s h j t u there e).0;
         alone = λ j u n there i. (refl, refl);
         knows = record {
           live = live;
@@ -115,7 +122,7 @@ module _ {S E : Type 0} (entries : S → List E) (caller : E → ℕ) (fixed : S
         own = tt;
         out = refl;
         drawn_more = omega arith;
-        unserved = λ j t u n there e. ⊎_elim (λ (g : u ≡ spent_view). let no : None ≡ Some t = sym (ap (λ (x : View E). x.ticket) g) ∙ e in absurd (cc)) (λ (g : Knows caller about h.log h.served h.drawn j u). (g.ticket t e).0) (h.passes j u there);
+        unserved = λ j t u _ there e. (is_out s h j t u there e).0;
         alone = λ j u n there i. (refl, refl);
         knows = record {
           live = live;
@@ -140,7 +147,7 @@ module _ {S E : Type 0} (entries : S → List E) (caller : E → ℕ) (fixed : S
         keeps,
         tt,
         changed entries caller fixed about s h id v w [] h.drawn h.served c _ s.homes (looked_word s.words h.drawn h.served h.words) (place_still s h id v at w _ (h.log ++ []) refl all),
-        (refl, k.heard, subst (AreBack caller) same (back_of s h)),
+        (refl, k.heard, ap (λ (n : ℕ). calls_by caller n v.seen) k.number ∙ k.own, subst (AreBack caller) same (back_of s h)),
       )
     where
       back_of : (s : T) (h : Holds s) → AreBack caller h.root.0
@@ -183,7 +190,7 @@ module _ {S E : Type 0} (entries : S → List E) (caller : E → ℕ) (fixed : S
         own = tt;
         out = refl;
         drawn_more = omega arith;
-        unserved = λ j t u n there e. ⊎_elim (λ (g : u ≡ spent_view). let no : None ≡ Some t = sym (ap (λ (x : View E). x.ticket) g) ∙ e in absurd (cc)) (λ (g : Knows caller about h.log h.served h.drawn j u). (g.ticket t e).0) (h.passes j u there);
+        unserved = λ j t u _ there e. (is_out s h j t u there e).0;
         alone = λ j u n there i. (refl, refl);
         knows = record {
           live = live;
@@ -209,61 +216,65 @@ module _ {S E : Type 0} (entries : S → List E) (caller : E → ℕ) (fixed : S
         (value, refl, subst (Begins v.seen) list k.seen, ap (calls_by caller v.number) (sym list) ∙ ap (λ (n : ℕ). calls_by caller n h.log) k.number ∙ k.mine, p.same ∙ sym k.fixed),
       )
 
+  -- where a pass that isn't inside has the ticket that is served, nobody is inside
+  home_at_turn : (s : T) (h : Holds s) (id : ℕ) (v : View E) → IsAt s.views id v → v.inside ≡ false → v.ticket ≡ Some h.served → IsHome entries caller fixed about h.log s
+  home_at_turn s h id v at out mine = ⊎_elim (λ p. p) (λ p. let none : ⊥ = nobody p in absurd none) h.place
+    where
+      nobody : IsOut entries caller fixed s → ⊥
+      nobody p =
+          let who : p.who ≡ id = h.apart p.who id h.served p.view v p.there at (inside_served s h p.who p.view p.there p.inside) mine in
+          let one : p.view ≡ v = at_same s.views id p.view v (subst (λ (n : ℕ). IsAt s.views n p.view) who p.there) at in
+          true≢false (sym p.inside ∙ ap (λ (x : View E). x.inside) one ∙ out)
+
+  -- a look may go on from here
+  abbrev Looked : ℕ → ℕ → Me (Option S) (View E) → T → Type 0
+  Looked slots id me s =
+      (w : View E) × (a : Act (Option S)) × Valid s.homes me.1 a × Holds (stepped s 1 (slice_index s.words 1) id me.1 w a)
+      × Looks entries caller fixed (step slots 1 0 0 m.none) me (slice_index s.words 1) (w, carried_after me.1 a)
+
+  module _ (slots id : ℕ) (me : Me (Option S) (View E)) (t : ℕ) (has : me.0.ticket ≡ Some t) (s : T) (h : Holds s) (at : IsAt s.views id me.0) (out : me.0.inside ≡ false) (live : me.0.spent ≡ false) where
+    found : slice_index s.words 1 ≡ h.served % 2 ^ 64
+    found = ap (λ (l : List ℕ). slice_index l 1) h.words
+
+    same_ticket : (u : ℕ) → me.0.ticket ≡ Some u → t ≡ u
+    same_ticket u e = let x : Some t ≡ Some u = sym has ∙ e in cc
+
+    hit : h.served % 2 ^ 64 ≡ t % 2 ^ 64 → Looked slots id me s
+    hit same =
+        let b = is_out s h id t me.0 at has in
+        let is : h.served ≡ t = is_served s h t b.0 b.1 same in
+        let mine : me.0.ticket ≡ Some h.served = has ∙ (λ i. Some (sym is i)) in
+        let g = comes_in slots id me s h at out live mine (home_at_turn s h id me.0 at out mine) in
+        (g.0, g.1, g.2, g.3, λ u e. ((λ _. g.4), (λ n. absurd (n (found ∙ same ∙ ap (λ (x : ℕ). x % 2 ^ 64) (same_ticket u e))))))
+
+    miss : h.served % 2 ^ 64 ≢ t % 2 ^ 64 → Looked slots id me s
+    miss n =
+        let all : h.log ++ [] ≡ h.log = append-nil h.log in
+        let c : Change entries caller fixed about s h id me.0 me.0 [] h.drawn h.served = record {
+          there = at;
+          live = live;
+          own = tt;
+          out = refl;
+          drawn_more = omega arith;
+          unserved = λ j t u _ there e. (is_out s h j t u there e).0;
+          alone = λ j u n there i. (refl, refl);
+          knows = subst (λ (l : List E). Knows caller about l h.served h.drawn id me.0) (sym all) (known entries caller fixed about s h id me.0 at live);
+          ticket = λ t e. inl e;
+          seen = begins_all me.0.seen;
+          whole = inr (refl, refl);
+          root = (refl, refl, refl);
+        } in (
+          me.0,
+          keeps,
+          tt,
+          changed entries caller fixed about s h id me.0 me.0 [] h.drawn h.served c _ s.homes (looked_word s.words h.drawn h.served h.words) (place_still s h id me.0 at me.0 _ (h.log ++ []) refl all),
+          λ u e. ((λ hit. absurd (n (sym found ∙ hit ∙ ap (λ (x : ℕ). x % 2 ^ 64) (sym (same_ticket u e))))), λ _. refl),
+        )
+
   pub looks : (slots id : ℕ) (me : Me (Option S) (View E)) (t : ℕ) → me.0.ticket ≡ Some t → me.0.inside ≡ false → me.0.spent ≡ false
       → Allows Holds slots id me 1 (λ n. n) (Looks entries caller fixed (step slots 1 0 0 m.none) me)
-  looks slots id me t has out live s h _ at _ = dite (ℕ_discrete (h.served % 2 ^ 64) (t % 2 ^ 64)) (λ same. hit same) (λ n. miss n)
-    where
-      v : View E
-      v = me.0
-
-      Goal : Type 0
-      Goal = (w : View E) × (a : Act (Option S)) × Valid s.homes me.1 a × Holds (stepped s 1 (slice_index s.words 1) id me.1 w a) × Looks entries caller fixed (step slots 1 0 0 m.none) me (slice_index s.words 1) (w, carried_after me.1 a)
-
-      found : slice_index s.words 1 ≡ h.served % 2 ^ 64
-      found = ap (λ (l : List ℕ). slice_index l 1) h.words
-
-      same_ticket : (u : ℕ) → me.0.ticket ≡ Some u → t ≡ u
-      same_ticket u e = let x : Some t ≡ Some u = sym has ∙ e in cc
-
-      hit : h.served % 2 ^ 64 ≡ t % 2 ^ 64 → (w : View E) × (a : Act (Option S)) × Valid s.homes me.1 a × Holds (stepped s 1 (slice_index s.words 1) id me.1 w a) × Looks entries caller fixed (step slots 1 0 0 m.none) me (slice_index s.words 1) (w, carried_after me.1 a)
-      hit same =
-          let k = known entries caller fixed about s h id v at live in
-          let b = k.ticket t has in
-          let is : h.served ≡ t = is_served s h t b.0 b.1 same in
-          let mine : v.ticket ≡ Some h.served = has ∙ (λ i. Some (sym is i)) in
-          let home : IsHome entries caller fixed about h.log s = ⊎_elim (λ p. p)
-              (λ (p : IsOut entries caller fixed s).
-              let who : p.who ≡ id = h.apart p.who id h.served p.view v p.there at (inside_served s h p.who p.view p.there p.inside) mine in
-              let one : p.view ≡ v = at_same s.views id p.view v (subst (λ (n : ℕ). IsAt s.views n p.view) who p.there) at in
-              absurd (true≢false (sym p.inside ∙ ap (λ (x : View E). x.inside) one ∙ out)))
-              h.place in
-          let g = comes_in slots id me s h at out live mine home in
-          (g.0, g.1, g.2, g.3, λ u e. ((λ _. g.4), (λ n. absurd (n (found ∙ same ∙ ap (λ (x : ℕ). x % 2 ^ 64) (same_ticket u e))))))
-
-      miss : h.served % 2 ^ 64 ≢ t % 2 ^ 64 → (w : View E) × (a : Act (Option S)) × Valid s.homes me.1 a × Holds (stepped s 1 (slice_index s.words 1) id me.1 w a) × Looks entries caller fixed (step slots 1 0 0 m.none) me (slice_index s.words 1) (w, carried_after me.1 a)
-      miss n =
-          let all : h.log ++ [] ≡ h.log = append-nil h.log in
-          let k = known entries caller fixed about s h id v at live in
-          let c : Change entries caller fixed about s h id v v [] h.drawn h.served = record {
-            there = at;
-            live = live;
-            own = tt;
-            out = refl;
-            drawn_more = omega arith;
-            unserved = λ j t u n there e. ⊎_elim (λ (g : u ≡ spent_view). let no : None ≡ Some t = sym (ap (λ (x : View E). x.ticket) g) ∙ e in absurd (cc)) (λ (g : Knows caller about h.log h.served h.drawn j u). (g.ticket t e).0) (h.passes j u there);
-            alone = λ j u n there i. (refl, refl);
-            knows = subst (λ (l : List E). Knows caller about l h.served h.drawn id v) (sym all) k;
-            ticket = λ t e. inl e;
-            seen = begins_all v.seen;
-            whole = inr (refl, refl);
-            root = (refl, refl, refl);
-          } in (
-            v,
-            keeps,
-            tt,
-            changed entries caller fixed about s h id v v [] h.drawn h.served c _ s.homes (looked_word s.words h.drawn h.served h.words) (place_still s h id v at v _ (h.log ++ []) refl all),
-            λ u e. ((λ hit. absurd (n (sym found ∙ hit ∙ ap (λ (x : ℕ). x % 2 ^ 64) (sym (same_ticket u e))))), λ _. refl),
-          )
+  looks slots id me t has out live s h _ at _ =
+      dite (ℕ_discrete (h.served % 2 ^ 64) (t % 2 ^ 64)) (hit slots id me t has s h at out live) (miss slots id me t has s h at out live)
 
   pub serves : (slots id : ℕ) (me : Me (Option S) (View E)) (value : S) (more : List E) → me.1 ≡ (0, Some value) ∷ [] → me.0.inside ≡ true → me.0.spent ≡ false
       → entries value ≡ me.0.seen ++ more → Each (λ e. caller e ≡ me.0.number) more → fixed value ≡ me.0.fixed
@@ -285,11 +296,10 @@ module _ {S E : Type 0} (entries : S → List E) (caller : E → ℕ) (fixed : S
         own = mine;
         out = let one : weight has_ticket v ≡ 1 = ap (λ (o : Option ℕ). weight has_ticket (record v { ticket = o })) turn in omega arith;
         drawn_more = omega arith;
-        unserved = λ j t u n there e. ⊎_elim (λ (g : u ≡ spent_view). let no : None ≡ Some t = sym (ap (λ (x : View E). x.ticket) g) ∙ e in absurd (cc))
-            (λ (g : Knows caller about h.log h.served h.drawn j u).
-            let low = (g.ticket t e).0 in
+        unserved = λ j t u n there e.
+            let low = (is_out s h j t u there e).0 in
             let differ : h.served ≢ t = λ z. n (h.apart j id t u v there at e (turn ∙ (λ i. Some (z i)))) in
-            omega arith) (h.passes j u there);
+            omega arith;
         alone = λ j u n there i. absurd (others_out j u n there i);
         knows = record {
           live = live;
@@ -298,11 +308,11 @@ module _ {S E : Type 0} (entries : S → List E) (caller : E → ℕ) (fixed : S
           heard = begins_then v.heard v.seen (v.seen ++ more) k.heard (more, refl);
           mine = calls;
           own = ap (λ (l : List E). calls_by caller id (l ++ more)) list ∙ calls;
-          ticket = λ t e. absurd (cc);
+          ticket = λ t e. let none : ⊥ = cc in absurd none;
           inside = λ i. absurd (true≢false (sym i));
           fixed = k.fixed;
         };
-        ticket = λ t e. absurd (cc);
+        ticket = λ t e. let none : ⊥ = cc in absurd none;
         seen = (more, refl);
         whole = inl (ap (λ (l : List E). l ++ more) list);
         root = (refl, refl, refl);

@@ -30,7 +30,7 @@ module _ {S E : Type 0} (entries : S → List E) (caller : E → ℕ) (fixed : S
   Serves step me found me' = (value : S) → me.1 ≡ (0, Some value) ∷ []
       → (more : List E) × (entries value ≡ me.0.seen ++ more) × (me' ≡ (outside_after me.0 more, [])) × (calls_by caller me.0.number (entries value) ≡ me.0.mine ++ more)
 
--- what the root heard of begins what it has seen, and what it keeps of the passes taken back is so in what it has seen
 module _ {S E : Type 0} (caller : E → ℕ) where
+  -- what the root heard of begins what it has seen; in that, its own entries are those that it made, and those of each pass taken back are those that it keeps
   abbrev pub Settles : Step (Option S) → Me (Option S) (View E) → ℕ → Me (Option S) (View E) → Type 0
-  Settles step me found me' = (me' ≡ (settled_view me.0, me.1)) × Begins me.0.heard me.0.seen × AreBack caller me.0
+  Settles step me found me' = (me' ≡ (settled_view me.0, me.1)) × Begins me.0.heard me.0.seen × (calls_by caller me.0.number me.0.seen ≡ me.0.mine) × AreBack caller me.0

@@ -16,7 +16,9 @@ use std::sync::Wait;
 
 // The two words, and the slot.
 const NEXT: usize = 0;
+
 const SERVED: usize = 1;
+
 const VALUE: usize = 0;
 
 impl<S: Kept> TurnLock<S> {
@@ -113,9 +115,14 @@ impl<S: Kept> TurnLock<S> {
         ensures mine { calls_by S.caller (view_of pass.old).number (view_of pass.new).seen ≡ (view_of pass.new).mine }
         ensures view { (more : List S.Entry) × (S.entries value ≡ (view_of pass.old).seen ++ more) × (view_of pass.new ≡ outside_after (view_of pass.old) more) }
     {
-        let held = self.table.shared.exchange(&mut pass.seat, VALUE, Some(value));
+        let held = self
+            .table
+            .shared
+            .exchange(&mut pass.seat, VALUE, Some(value));
         let None = held else { unreachable!() };
-        self.table.shared.fetch_add::<Serve>(&mut pass.seat, SERVED, 1);
+        self.table
+            .shared
+            .fetch_add::<Serve>(&mut pass.seat, SERVED, 1);
     }
 
     /// A new pass, with the next number. It has seen what the root has, and made nothing.
@@ -142,10 +149,13 @@ impl<S: Kept> TurnLock<S> {
         ensures free { IsFree root.new }
         ensures view { view_of root.new ≡ settled_view (root_after_join (view_of root.old) (view_of other)) }
         ensures seen { Begins (view_of root.old).seen (view_of root.new).seen × Begins (view_of other).seen (view_of root.new).seen }
+        ensures mine { calls_by S.caller 0 (view_of root.new).seen ≡ (view_of root.new).mine }
         ensures back { AreBack S.caller (view_of root.new) }
     {
         let Pass { seat } = other;
-        self.table.shared.join_seat::<TakeBack>(&mut root.seat, seat);
+        self.table
+            .shared
+            .join_seat::<TakeBack>(&mut root.seat, seat);
         self.table.shared.load::<Settle>(&mut root.seat, SERVED);
     }
 

@@ -1,4 +1,4 @@
-use Rattle.std.proofs.Common.{◌≡◌, ap, ◌∙◌, rules}
+use Rattle.std.proofs.Common.{rules}
 use Rattle.hr_turn.proofs.WordSteps.{draws}
 use Rattle.hr_turn.proofs.pass.TurnLock.draw.Goals as goal
 

@@ -1,4 +1,4 @@
-use Rattle.std.proofs.Common.{◌≡◌, sym, ap, ◌∙◌, subst, rules}
+use Rattle.std.proofs.Common.{sym, ap, ◌∙◌, subst, rules}
 use Rattle.hr_turn.specs.Steps.{AreBack}
 use Rattle.hr_turn.proofs.WordSteps.{settles}
 use Rattle.hr_turn.proofs.Joining.{joins}
@@ -21,4 +21,4 @@ load-requires g c = let j = c.join_seat.ensures in (
 )
 
 pub returns-clause-back : goal.returns-clause-back
-returns-clause-back g c = let l = c.load.ensures.2 in subst (AreBack g.S.Kept.caller) (sym (ap (λ m. m.0) l.0)) l.2
+returns-clause-back g c = let l = c.load.ensures.2 in subst (AreBack g.S.Kept.caller) (sym (ap (λ m. m.0) l.0)) l.3

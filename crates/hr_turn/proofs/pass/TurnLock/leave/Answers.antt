@@ -1,4 +1,4 @@
-use Rattle.std.proofs.Common.{◌≡◌, ℕ, ◌+◌, ◌%◌, ◌^◌, Option, Some, List, [], ◌∷◌, refl, sym, ap, ◌∙◌, subst, rules}
+use Rattle.std.proofs.Common.{◌≡◌, ◌+◌, ◌%◌, ◌^◌, Option, Some, [], ◌∷◌, refl, sym, ◌∙◌, subst, rules}
 use Rattle.atomic_table.specs.Table.{Me, step, rest, Allows}
 use mathlib.Core.Option as m
 use Rattle.hr_turn.specs.declared.view.View.{View}
@@ -17,8 +17,8 @@ fetch_add-requires g c =
       search rules,
       subst
           (λ (me : Me (Option g.row.S.Denot) (View g.row.S-Entry.Denot)). Allows (InTurns g.S.Kept.entries g.S.Kept.caller g.S.Kept.fixed (g.S.Kept.fixed c.args.self.now.table.shared.key.value))
-              c.args.self.now.table.shared.table_id.slots c.exchange-held.new.seat.id me 1 (λ n. (n + 1) % 2 ^ 64)
-              (Serves g.S.Kept.entries g.S.Kept.caller g.S.Kept.fixed (step c.args.self.now.table.shared.table_id.slots 1 1 0 m.none) me))
+          c.args.self.now.table.shared.table_id.slots c.exchange-held.new.seat.id me 1 (λ n. (n + 1) % 2 ^ 64)
+          (Serves g.S.Kept.entries g.S.Kept.caller g.S.Kept.fixed (step c.args.self.now.table.shared.table_id.slots 1 1 0 m.none) me))
           (sym is)
           (serves g.S.Kept.entries g.S.Kept.caller g.S.Kept.fixed _ _ _ now c.args.value q.grown.0 refl q.inside.1 q.inside.2 q.grown.1 q.grown.2 q.fixed),
     )
