@@ -9,6 +9,7 @@ use Rattle.hr_turn.specs.declared.view.View.{View}
 use Rattle.hr_turn.specs.Entries.{Begins, Each, calls_by}
 use Rattle.hr_turn.specs.Views.{spent_view}
 use Rattle.hr_turn.specs.Turns.{IsAt, Differ, IsHome, IsOut, Knows, IsBack, IsRoot, InTurns}
+use Rattle.hr_turn.specs.Steps.{AreBack}
 use Rattle.hr_turn.proofs.Lists.{begins_then, at_below, at_same, each_map, weight, count_set, calls-append, calls_other, calls_between}
 
 module _ {E : Type 0} where
@@ -17,6 +18,13 @@ module _ {E : Type 0} where
 
   abbrev pub is_live : View E → Bool
   is_live v = not v.spent
+
+-- what the root keeps of the passes taken back, as it is told to callers
+pub are_back : {E : Type 0} (caller : E → ℕ) (log : List E) (views : List (View E)) (v : View E) → IsRoot caller log views v → AreBack caller v
+are_back caller log views v r = (
+  each_map _ _ (λ p k. (k.number, (let inside = at_below views p.0 spent_view k.spent in let n = r.splits in omega arith), k.own)) v.joined r.joined,
+  r.apart,
+)
 
 module _ {S E : Type 0} (entries : S → List E) (caller : E → ℕ) (fixed : S → List ℕ) (about : List ℕ) where
   abbrev pub Rule : State (Option S) (View E) → Type 0

@@ -13,7 +13,7 @@ use Rattle.hr_turn.specs.Views.{spent_view, with_ticket, inside_at, outside_afte
 use Rattle.hr_turn.specs.Turns.{IsAt, IsHome, IsOut, Knows, IsRoot, InTurns}
 use Rattle.hr_turn.specs.Steps.{AreBack, Draws, TakesTurn, Looks, Serves, Settles}
 use Rattle.hr_turn.proofs.Lists.{begins_all, begins_then, at_below, at_same, each_map, weight, count_few, calls-append, calls_own}
-use Rattle.hr_turn.proofs.Change.{has_ticket, known, Change, changed}
+use Rattle.hr_turn.proofs.Change.{has_ticket, known, are_back, Change, changed}
 
 module _ {S E : Type 0} (entries : S → List E) (caller : E → ℕ) (fixed : S → List ℕ) (about : List ℕ) where
   abbrev T : Type 0
@@ -147,13 +147,7 @@ module _ {S E : Type 0} (entries : S → List E) (caller : E → ℕ) (fixed : S
         keeps,
         tt,
         changed entries caller fixed about s h id v w [] h.drawn h.served c _ s.homes (looked_word s.words h.drawn h.served h.words) (place_still s h id v at w _ (h.log ++ []) refl all),
-        (refl, k.heard, ap (λ (n : ℕ). calls_by caller n v.seen) k.number ∙ k.own, subst (AreBack caller) same (back_of s h)),
-      )
-    where
-      back_of : (s : T) (h : Holds s) → AreBack caller h.root.0
-      back_of s h = let r = h.root.1 in (
-        each_map _ _ (λ p k. (k.number, (let inside = at_below s.views p.0 spent_view k.spent in let n = r.splits in omega arith), k.own)) h.root.0.joined r.joined,
-        r.apart,
+        (refl, k.heard, ap (λ (n : ℕ). calls_by caller n v.seen) k.number ∙ k.own, subst (AreBack caller) same (are_back caller h.log s.views h.root.0 r)),
       )
 
   -- whoever is inside has the ticket that is served

@@ -159,7 +159,8 @@ impl<S: Kept> TurnLock<S> {
         self.table.shared.load::<Settle>(&mut root.seat, SERVED);
     }
 
-    /// The value, once the root has taken back every pass that it split off.
+    /// The value, once the root has taken back every pass that it split off. Each of its entries is then the root's
+    /// or that of one of these.
     pub fn close(self, root: Pass<S>) -> S
         requires lock { lock_of root ≡ id_of self }
         requires root { (view_of root).number ≡ 0 }
@@ -167,6 +168,9 @@ impl<S: Kept> TurnLock<S> {
         requires free { IsFree root }
         ensures seen { S.entries result ≡ (view_of root).seen }
         ensures fixed { S.fixed result ≡ (view_of root).fixed }
+        ensures mine { calls_by S.caller 0 (view_of root).seen ≡ (view_of root).mine }
+        ensures back { AreBack S.caller (view_of root) }
+        ensures nobody { (number : ℕ) → (view_of root).splits < number → calls_by S.caller number (view_of root).seen ≡ [] }
     {
         let TurnLock { table } = self;
         let Pass { seat } = root;
