@@ -1,0 +1,103 @@
+//! One run: threads that take turns at one value.
+ghost use Rattle.std.specs.Prelude.{◌≡◌, ◌<◌, ◌≤◌, ◌^◌, All, IfOk, vec_len};
+ghost use Rattle.hr_turn.specs.Passes.{id_of, lock_of, view_of, IsFree};
+
+use crate::block::{Block, Padding};
+use hr_turn::{Pass, TurnLock};
+use std::alloc::{AllocError, Global};
+use std::sync::{Mutex, Wait};
+use std::thread;
+use std::thread::Threads;
+
+/// So many threads take so many turns each, with so many steps of work after each.
+#[derive(Clone, Copy)]
+pub struct Load {
+    pub threads: u32,
+    pub turns: u32,
+    pub steps: u64,
+}
+
+/// Some work, of a length that grows with `steps`. Always 1, which a compiler doesn't see.
+pub fn work(steps: u64) -> u64 {
+    let mut x = 0x9E37_79B9_7F4A_7C15u64;
+    for _ in 0..steps {
+        x ^= x << 13;
+        x ^= x >> 7;
+        x ^= x << 17;
+    }
+    u64::from(x != 0)
+}
+
+/// A run through a turn lock. Gives the turns that the value counted.
+pub fn run_turn_lock<P: Padding, R: Threads + Wait + Sync>(
+    rt: &R,
+    alloc: Global,
+    load: &Load,
+) -> Result<u64, AllocError> {
+    let (lock, mut root) = TurnLock::new(alloc, Block::<P>::new())?;
+    let passes = split_off(alloc, &lock, &mut root, load.threads)?;
+    let shared = &lock;
+    thread::map_vec(rt, passes, &|pass: Pass<Block<P>>|
+        requires { (lock_of pass ≡ id_of shared.now) × IsFree pass }
+        { take_turns(rt, shared, pass, load) })?;
+    let block = lock.enter(rt, &mut root);
+    Ok(block.turns)
+}
+
+fn split_off<P: Padding>(
+    alloc: Global,
+    lock: &TurnLock<Block<P>>,
+    root: &mut Pass<Block<P>>,
+    count: u32,
+) -> Result<Vec<Pass<Block<P>>>, AllocError>
+    requires lock { lock_of root.old ≡ id_of lock.now }
+    requires root { (view_of root.old).number ≡ 0 }
+    requires splits { (view_of root.old).splits ≡ 0 }
+    requires free { IsFree root.old }
+    ensures root { (lock_of root.new ≡ lock_of root.old) × IsFree root.new }
+    ensures passes { IfOk result (λ passes. All (λ pass. (lock_of pass ≡ id_of lock.now) × IsFree pass) passes.items) }
+{
+    let mut passes = Vec::new(alloc);
+    'splits: for _index in 0..count {
+        passes.push(lock.split(root))?;
+    }
+    Ok(passes)
+}
+
+fn take_turns<P: Padding, R: Wait>(
+    rt: &R,
+    lock: &TurnLock<Block<P>>,
+    mut pass: Pass<Block<P>>,
+    load: &Load,
+)
+    requires lock { lock_of pass ≡ id_of lock.now }
+    requires free { IsFree pass }
+{
+    let mut worked = 1;
+    'turns: for _ in 0..load.turns {
+        let mut block = lock.enter(rt, &mut pass);
+        block.add(worked);
+        lock.leave(&mut pass, block);
+        worked = work(load.steps);
+    }
+}
+
+/// The same run through a plain `Mutex`.
+pub fn run_mutex<P: Padding, R: Threads + Wait + Sync>(
+    rt: &R,
+    alloc: Global,
+    load: &Load,
+) -> Result<u64, AllocError> {
+    let lock = Mutex::new(Block::<P>::new());
+    let shared = &lock;
+    thread::map_indices(rt, alloc, load.threads as usize, &|_| lock_often(rt, shared, load))?;
+    Ok(lock.into_inner().turns)
+}
+
+fn lock_often<P: Padding, R: Wait>(rt: &R, lock: &Mutex<Block<P>>, load: &Load) {
+    let mut worked = 1;
+    for _ in 0..load.turns {
+        lock.lock(rt).add(worked);
+        worked = work(load.steps);
+    }
+}

@@ -1,0 +1,98 @@
+//! What is printed.
+use crate::block::Padding;
+use crate::load::{Load, run_mutex, run_turn_lock, work};
+use std::io;
+use std::rt::Clock;
+use std::sync::Wait;
+use std::thread::Threads;
+use std::time::Instant;
+
+// Turns in one run that is timed: back to back, and with work between them.
+const TURNS: u32 = 192_000;
+const TURNS_WITH_WORK: u32 = 38_400;
+
+const WORK_NANOS: u64 = 9_000;
+
+/// How many turns short runs take.
+pub fn print_counts<R: Threads + Wait + Sync + Print + AllocGlobal>(rt: &R) -> io::Result<()> {
+    print_count(rt, 1, 600)?;
+    print_count(rt, 2, 300)?;
+    print_count(rt, 4, 150)
+}
+
+fn print_count<R: Threads + Wait + Sync + Print + AllocGlobal>(
+    rt: &R,
+    threads: u32,
+    turns: u32,
+) -> io::Result<()> {
+    let load = Load {
+        threads,
+        turns,
+        steps: 10,
+    };
+    let small = run_turn_lock::<(), R>(rt, rt.alloc(), &load)?;
+    let large = run_turn_lock::<[u64; 62], R>(rt, rt.alloc(), &load)?;
+    let mutex = run_mutex::<(), R>(rt, rt.alloc(), &load)?;
+    println!(rt; "{threads} threads: {small} turns at 8 bytes, {large} at 504, {mutex} of a mutex")
+}
+
+/// How long a turn takes, in nanoseconds.
+pub fn print_times<R: Threads + Wait + Sync + Print + AllocGlobal + Clock>(
+    rt: &R,
+) -> io::Result<()> {
+    let steps = steps_of(rt, WORK_NANOS)?;
+    for threads in [1, 2, 3, 4, 8, 64] {
+        print_time::<(), R>(rt, "8 bytes", threads, 0)?;
+        print_time::<(), R>(rt, "8 bytes", threads, steps)?;
+    }
+    for threads in [1, 2, 4] {
+        print_time::<[u64; 9], R>(rt, "80 bytes", threads, 0)?;
+        print_time::<[u64; 62], R>(rt, "504 bytes", threads, 0)?;
+    }
+    Ok(())
+}
+
+// How many steps of work take so many nanoseconds.
+fn steps_of<R: Clock>(rt: &R, nanos: u64) -> io::Result<u64> {
+    let start = Instant::now(rt)?;
+    let worked = work(1 << 24);
+    let taken = start.elapsed(rt)?.as_nanos().max(1);
+    let steps = u128::from(nanos) * (1 << 24) / taken;
+    Ok(u64::try_from(steps).unwrap_or(worked))
+}
+
+fn print_time<P: Padding, R: Threads + Wait + Sync + Print + AllocGlobal + Clock>(
+    rt: &R,
+    size: &str,
+    threads: u32,
+    steps: u64,
+) -> io::Result<()> {
+    let all = if steps == 0 { TURNS } else { TURNS_WITH_WORK };
+    let load = Load {
+        threads,
+        turns: all / threads.max(1),
+        steps,
+    };
+    let (turn_lock, mutex) = best_times::<P, R>(rt, &load)?;
+    let turns = u128::from(all.max(1));
+    let between = if steps == 0 { "back to back" } else { "9 us of work" };
+    println!(rt; "{size}, {between}, {threads} threads: {} ns a turn, {} of a mutex", turn_lock / turns, mutex / turns)
+}
+
+// The best of five runs through the turn lock, and of five through a mutex, by turns.
+fn best_times<P: Padding, R: Threads + Wait + Sync + AllocGlobal + Clock>(
+    rt: &R,
+    load: &Load,
+) -> io::Result<(u128, u128)> {
+    let mut turn_lock = u128::MAX;
+    let mut mutex = u128::MAX;
+    for _ in 0..5 {
+        let start = Instant::now(rt)?;
+        run_turn_lock::<P, R>(rt, rt.alloc(), load)?;
+        turn_lock = turn_lock.min(start.elapsed(rt)?.as_nanos());
+        let start = Instant::now(rt)?;
+        run_mutex::<P, R>(rt, rt.alloc(), load)?;
+        mutex = mutex.min(start.elapsed(rt)?.as_nanos());
+    }
+    Ok((turn_lock, mutex))
+}
