@@ -5,6 +5,7 @@ ghost use Rattle.hr_turn.specs.Passes.{id_of, lock_of, view_of, IsFree};
 use crate::block::{Block, Padding};
 use hr_turn::{Pass, TurnLock};
 use std::alloc::{AllocError, Global};
+use std::sync::atomic::{AtomicU64, Ordering};
 use std::sync::{Mutex, Wait};
 use std::thread;
 use std::thread::Threads;
@@ -17,15 +18,15 @@ pub struct Load {
     pub steps: u64,
 }
 
-/// Some work, of a length that grows with `steps`. Always 1, which a compiler doesn't see.
-pub fn work(steps: u64) -> u64 {
+/// Some work, of a length that grows with `steps`. It ends in an atomic step, so that no compiler moves it.
+pub fn work(done: &AtomicU64, steps: u64) {
     let mut x = 0x9E37_79B9_7F4A_7C15u64;
     for _ in 0..steps {
         x ^= x << 13;
         x ^= x >> 7;
         x ^= x << 17;
     }
-    u64::from(x != 0)
+    done.fetch_add(x, Ordering::SeqCst);
 }
 
 /// A run through a turn lock. Gives the turns that the value counted.
@@ -73,12 +74,12 @@ fn take_turns<P: Padding, R: Wait>(
     requires lock { lock_of pass ≡ id_of lock.now }
     requires free { IsFree pass }
 {
-    let mut worked = 1;
+    let done = AtomicU64::new(0);
     'turns: for _ in 0..load.turns {
         let mut block = lock.enter(rt, &mut pass);
-        block.add(worked);
+        block.add(1);
         lock.leave(&mut pass, block);
-        worked = work(load.steps);
+        work(&done, load.steps);
     }
 }
 
@@ -95,9 +96,9 @@ pub fn run_mutex<P: Padding, R: Threads + Wait + Sync>(
 }
 
 fn lock_often<P: Padding, R: Wait>(rt: &R, lock: &Mutex<Block<P>>, load: &Load) {
-    let mut worked = 1;
+    let done = AtomicU64::new(0);
     for _ in 0..load.turns {
-        lock.lock(rt).add(worked);
-        worked = work(load.steps);
+        lock.lock(rt).add(1);
+        work(&done, load.steps);
     }
 }

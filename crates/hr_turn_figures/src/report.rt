@@ -1,15 +1,22 @@
 //! What is printed.
+ghost use Rattle.std.specs.Prelude.{◌<◌, ◌^◌};
+
 use crate::block::Padding;
 use crate::load::{Load, run_mutex, run_turn_lock, work};
 use std::io;
 use std::rt::Clock;
 use std::sync::Wait;
+use std::sync::atomic::AtomicU64;
 use std::thread::Threads;
 use std::time::Instant;
 
-// Turns in one run that is timed: back to back, and with work between them.
-const TURNS: u32 = 192_000;
+// Turns in one run that is timed: back to back, by few threads and by many, and with work between them.
+const TURNS_OF_FEW: u32 = 1_920_000;
+const TURNS_OF_MANY: u32 = 192_000;
 const TURNS_WITH_WORK: u32 = 38_400;
+
+// Steps of work that are timed, for the length of one.
+const TRIED_STEPS: u64 = 1 << 20;
 
 const WORK_NANOS: u64 = 9_000;
 
@@ -52,13 +59,26 @@ pub fn print_times<R: Threads + Wait + Sync + Print + AllocGlobal + Clock>(
     Ok(())
 }
 
-// How many steps of work take so many nanoseconds.
-fn steps_of<R: Clock>(rt: &R, nanos: u64) -> io::Result<u64> {
-    let start = Instant::now(rt)?;
-    let worked = work(1 << 24);
-    let taken = start.elapsed(rt)?.as_nanos().max(1);
-    let steps = u128::from(nanos) * (1 << 24) / taken;
-    Ok(u64::try_from(steps).unwrap_or(worked))
+// How many steps of work take so many nanoseconds, by the best of five tries.
+fn steps_of<R: Clock>(rt: &R, nanos: u64) -> io::Result<u64>
+    requires { nanos < 2 ^ 32 }
+{
+    let mut best = u64::MAX;
+    for _ in 0..5 {
+        let start = Instant::now(rt)?;
+        work(&AtomicU64::new(0), TRIED_STEPS);
+        let taken = u64::try_from(start.elapsed(rt)?.as_nanos()).unwrap_or(u64::MAX);
+        best = best.min(taken);
+    }
+    Ok(nanos * TRIED_STEPS / best.max(1))
+}
+
+fn turns_of(threads: u32, steps: u64) -> u32 {
+    match (steps, threads) {
+        (0, 0..=3) => TURNS_OF_FEW,
+        (0, _) => TURNS_OF_MANY,
+        _ => TURNS_WITH_WORK,
+    }
 }
 
 fn print_time<P: Padding, R: Threads + Wait + Sync + Print + AllocGlobal + Clock>(
@@ -67,7 +87,7 @@ fn print_time<P: Padding, R: Threads + Wait + Sync + Print + AllocGlobal + Clock
     threads: u32,
     steps: u64,
 ) -> io::Result<()> {
-    let all = if steps == 0 { TURNS } else { TURNS_WITH_WORK };
+    let all = turns_of(threads, steps);
     let load = Load {
         threads,
         turns: all / threads.max(1),
