@@ -2,7 +2,6 @@
 #![tactic(auto)]
 
 pub mod calls;
-pub mod turns;
-
 #[cfg(test)]
 mod tests;
+pub mod turns;

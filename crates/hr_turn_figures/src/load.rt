@@ -10,12 +10,26 @@ use std::sync::{Mutex, Wait};
 use std::thread;
 use std::thread::Threads;
 
-/// So many threads take so many turns each, with so many steps of work after each.
+/// So many threads take so many turns each, with so many steps of work after each. None begins before as many as are
+/// awaited have come.
 #[derive(Clone, Copy)]
 pub struct Load {
     pub threads: u32,
     pub turns: u32,
     pub steps: u64,
+    pub awaited: u32,
+}
+
+// Comes to the start of a run, where so many have come already.
+fn start<R: Wait>(rt: &R, come: &AtomicU64, load: &Load) {
+    come.fetch_add(1, Ordering::SeqCst);
+    'others: for _ in rt.forever() {
+        if come.load(Ordering::SeqCst) >= u64::from(load.awaited) {
+            return;
+        }
+        thread::yield_now();
+    }
+    unreachable!()
 }
 
 /// Some work, of a length that grows with `steps`. It ends in an atomic step, so that no compiler moves it.
@@ -38,9 +52,18 @@ pub fn run_turn_lock<P: Padding, R: Threads + Wait + Sync>(
     let (lock, mut root) = TurnLock::new(alloc, Block::<P>::new())?;
     let passes = split_off(alloc, &lock, &mut root, load.threads)?;
     let shared = &lock;
-    thread::map_vec(rt, passes, &|pass: Pass<Block<P>>|
-        requires { (lock_of pass ≡ id_of shared.now) × IsFree pass }
-        { take_turns(rt, shared, pass, load) })?;
+    let come = AtomicU64::new(0);
+    let come = &come;
+    thread::map_vec(
+        rt,
+        passes,
+        &|pass: Pass<Block<P>>|
+            requires { (lock_of pass ≡ id_of shared.now) × IsFree pass }
+        {
+            start(rt, come, load);
+            take_turns(rt, shared, pass, load)
+        },
+    )?;
     let block = lock.enter(rt, &mut root);
     Ok(block.turns)
 }
@@ -91,7 +114,17 @@ pub fn run_mutex<P: Padding, R: Threads + Wait + Sync>(
 ) -> Result<u64, AllocError> {
     let lock = Mutex::new(Block::<P>::new());
     let shared = &lock;
-    thread::map_indices(rt, alloc, load.threads as usize, &|_| lock_often(rt, shared, load))?;
+    let come = AtomicU64::new(0);
+    let come = &come;
+    thread::map_indices(
+        rt,
+        alloc,
+        load.threads as usize,
+        &|_| {
+            start(rt, come, load);
+            lock_often(rt, shared, load)
+        },
+    )?;
     Ok(lock.into_inner().turns)
 }
 

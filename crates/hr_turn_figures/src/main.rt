@@ -9,8 +9,7 @@ mod load;
 mod report;
 
 use report::{print_counts, print_times};
-use std::env;
-use std::io;
+use std::{env, io};
 
 fn main(rt: HostRuntime) -> io::Result<()> {
     let mut wants_times = false;

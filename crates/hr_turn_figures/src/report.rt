@@ -8,15 +8,23 @@ use std::rt::Clock;
 use std::sync::Wait;
 use std::sync::atomic::AtomicU64;
 use std::thread::Threads;
-use std::time::Instant;
+use std::time::{Duration, Instant};
 
-// Turns in one run that is timed: back to back, by few threads and by many, and with work between them.
-const TURNS_OF_FEW: u32 = 1_920_000;
-const TURNS_OF_MANY: u32 = 192_000;
-const TURNS_WITH_WORK: u32 = 38_400;
+// Turns in one run that is timed: back to back, by up to two threads, by three and by more, and with work between
+// them. Through a mutex there are as many as two threads take.
+const TURNS_OF_TWO: u32 = 1_920_000;
+
+const TURNS_OF_THREE: u32 = 192_000;
+
+const TURNS_OF_MANY: u32 = 38_400;
+
+const TURNS_WITH_WORK: u32 = 19_200;
 
 // Steps of work that are timed, for the length of one.
 const TRIED_STEPS: u64 = 1 << 20;
+
+// Of so many runs the best is told.
+const RUNS: u32 = 5;
 
 const WORK_NANOS: u64 = 9_000;
 
@@ -36,6 +44,7 @@ fn print_count<R: Threads + Wait + Sync + Print + AllocGlobal>(
         threads,
         turns,
         steps: 10,
+        awaited: 0,
     };
     let small = run_turn_lock::<(), R>(rt, rt.alloc(), &load)?;
     let large = run_turn_lock::<[u64; 62], R>(rt, rt.alloc(), &load)?;
@@ -75,7 +84,8 @@ fn steps_of<R: Clock>(rt: &R, nanos: u64) -> io::Result<u64>
 
 fn turns_of(threads: u32, steps: u64) -> u32 {
     match (steps, threads) {
-        (0, 0..=3) => TURNS_OF_FEW,
+        (0, 0..=2) => TURNS_OF_TWO,
+        (0, 3) => TURNS_OF_THREE,
         (0, _) => TURNS_OF_MANY,
         _ => TURNS_WITH_WORK,
     }
@@ -87,32 +97,38 @@ fn print_time<P: Padding, R: Threads + Wait + Sync + Print + AllocGlobal + Clock
     threads: u32,
     steps: u64,
 ) -> io::Result<()> {
-    let all = turns_of(threads, steps);
-    let load = Load {
-        threads,
-        turns: all / threads.max(1),
-        steps,
+    let load = load_of(threads, turns_of(threads, steps), steps);
+    let mut turn_lock = u128::MAX;
+    for _ in 0..RUNS {
+        let start = Instant::now(rt)?;
+        run_turn_lock::<P, R>(rt, rt.alloc(), &load)?;
+        turn_lock = turn_lock.min(nanos_a_turn(start.elapsed(rt)?, &load));
+    }
+    let load = load_of(threads, turns_of(2, steps), steps);
+    let mut mutex = u128::MAX;
+    for _ in 0..RUNS {
+        let start = Instant::now(rt)?;
+        run_mutex::<P, R>(rt, rt.alloc(), &load)?;
+        mutex = mutex.min(nanos_a_turn(start.elapsed(rt)?, &load));
+    }
+    let between = if steps == 0 {
+        "back to back"
+    } else {
+        "9 us of work"
     };
-    let (turn_lock, mutex) = best_times::<P, R>(rt, &load)?;
-    let turns = u128::from(all.max(1));
-    let between = if steps == 0 { "back to back" } else { "9 us of work" };
-    println!(rt; "{size}, {between}, {threads} threads: {} ns a turn, {} of a mutex", turn_lock / turns, mutex / turns)
+    println!(rt; "{size}, {between}, {threads} threads: {turn_lock} ns a turn, {mutex} of a mutex")
 }
 
-// The best of five runs through the turn lock, and of five through a mutex, by turns.
-fn best_times<P: Padding, R: Threads + Wait + Sync + AllocGlobal + Clock>(
-    rt: &R,
-    load: &Load,
-) -> io::Result<(u128, u128)> {
-    let mut turn_lock = u128::MAX;
-    let mut mutex = u128::MAX;
-    for _ in 0..5 {
-        let start = Instant::now(rt)?;
-        run_turn_lock::<P, R>(rt, rt.alloc(), load)?;
-        turn_lock = turn_lock.min(start.elapsed(rt)?.as_nanos());
-        let start = Instant::now(rt)?;
-        run_mutex::<P, R>(rt, rt.alloc(), load)?;
-        mutex = mutex.min(start.elapsed(rt)?.as_nanos());
+fn load_of(threads: u32, turns: u32, steps: u64) -> Load {
+    Load {
+        threads,
+        turns: turns / threads.max(1),
+        steps,
+        awaited: threads,
     }
-    Ok((turn_lock, mutex))
+}
+
+fn nanos_a_turn(taken: Duration, load: &Load) -> u128 {
+    let turns = u128::from(load.threads) * u128::from(load.turns);
+    taken.as_nanos() / turns.max(1)
 }

@@ -8,5 +8,5 @@ invariant-calls g l = record {
   lock : lock_of l.pass ≡ lock_of l.fn.pass;
   free : IsFree l.pass;
   number : (view_of l.pass).number ≡ l.fn.caller;
-  mine : (view_of l.pass).mine ≡ first_calls l.fn.caller l.index
+  mine : (view_of l.pass).mine ≡ first_calls l.fn.caller l.index;
 }

@@ -8,5 +8,5 @@ invariant-splits g l = record {
   number : (view_of l.root).number ≡ 0;
   splits : (view_of l.root).splits ≡ l._index;
   free : IsFree l.root;
-  passes : All (λ pass. (lock_of pass ≡ id_of l.lock) × IsFree pass) l.passes.items
+  passes : All (λ pass. (lock_of pass ≡ id_of l.lock) × IsFree pass) l.passes.items;
 }
