@@ -5,19 +5,45 @@ ghost use Rattle.hr_turn.specs.Passes.{id_of, lock_of, view_of, IsFree};
 use crate::block::{Block, Padding};
 use hr_turn::{Pass, TurnLock};
 use std::alloc::{AllocError, Global};
+use std::rt::Clock;
 use std::sync::atomic::{AtomicU64, Ordering};
 use std::sync::{Mutex, Wait};
 use std::thread;
 use std::thread::Threads;
+use std::time::{Duration, Instant};
 
-/// So many threads take so many turns each, with so many steps of work after each. None begins before as many as are
-/// awaited have come.
+// So often a thread looks at the clock.
+const TURNS_A_LOOK: u32 = 16;
+
+/// So many threads take at most so many turns each, with so many steps of work after each. None begins before as many
+/// as are awaited have come, and where there is a limit they end once it has passed.
 #[derive(Clone, Copy)]
 pub struct Load {
     pub threads: u32,
     pub turns: u32,
     pub steps: u64,
     pub awaited: u32,
+    pub limit: Option<Limit>,
+}
+
+/// A length of time from some moment on.
+#[derive(Clone, Copy)]
+pub struct Limit {
+    pub start: Instant,
+    pub length: Duration,
+}
+
+// Whether the limit has passed, at a turn at which the clock is read.
+fn is_over<R: Clock>(rt: &R, load: &Load, turn: u32) -> bool {
+    match load.limit {
+        Some(limit) if turn % TURNS_A_LOOK == 0 => {
+            limit
+                .start
+                .elapsed(rt)
+                .map_or(true, |passed| passed >= limit.length)
+        }
+        _ => false,
+    }
 }
 
 // Comes to the start of a run, where so many have come already.
@@ -44,7 +70,7 @@ pub fn work(done: &AtomicU64, steps: u64) {
 }
 
 /// A run through a turn lock. Gives the turns that the value counted.
-pub fn run_turn_lock<P: Padding, R: Threads + Wait + Sync>(
+pub fn run_turn_lock<P: Padding, R: Threads + Wait + Clock + Sync>(
     rt: &R,
     alloc: Global,
     load: &Load,
@@ -88,7 +114,7 @@ fn split_off<P: Padding>(
     Ok(passes)
 }
 
-fn take_turns<P: Padding, R: Wait>(
+fn take_turns<P: Padding, R: Wait + Clock>(
     rt: &R,
     lock: &TurnLock<Block<P>>,
     mut pass: Pass<Block<P>>,
@@ -98,7 +124,10 @@ fn take_turns<P: Padding, R: Wait>(
     requires free { IsFree pass }
 {
     let done = AtomicU64::new(0);
-    'turns: for _ in 0..load.turns {
+    'turns: for turn in 0..load.turns {
+        if is_over(rt, load, turn) {
+            return;
+        }
         let mut block = lock.enter(rt, &mut pass);
         block.add(1);
         lock.leave(&mut pass, block);
@@ -107,7 +136,7 @@ fn take_turns<P: Padding, R: Wait>(
 }
 
 /// The same run through a plain `Mutex`.
-pub fn run_mutex<P: Padding, R: Threads + Wait + Sync>(
+pub fn run_mutex<P: Padding, R: Threads + Wait + Clock + Sync>(
     rt: &R,
     alloc: Global,
     load: &Load,
@@ -128,9 +157,12 @@ pub fn run_mutex<P: Padding, R: Threads + Wait + Sync>(
     Ok(lock.into_inner().turns)
 }
 
-fn lock_often<P: Padding, R: Wait>(rt: &R, lock: &Mutex<Block<P>>, load: &Load) {
+fn lock_often<P: Padding, R: Wait + Clock>(rt: &R, lock: &Mutex<Block<P>>, load: &Load) {
     let done = AtomicU64::new(0);
-    for _ in 0..load.turns {
+    for turn in 0..load.turns {
+        if is_over(rt, load, turn) {
+            return;
+        }
         lock.lock(rt).add(1);
         work(&done, load.steps);
     }

@@ -2,7 +2,7 @@
 ghost use Rattle.std.specs.Prelude.{◌<◌, ◌^◌};
 
 use crate::block::Padding;
-use crate::load::{Load, run_mutex, run_turn_lock, work};
+use crate::load::{Limit, Load, run_mutex, run_turn_lock, work};
 use std::io;
 use std::rt::Clock;
 use std::sync::Wait;
@@ -10,15 +10,8 @@ use std::sync::atomic::AtomicU64;
 use std::thread::Threads;
 use std::time::{Duration, Instant};
 
-// Turns in one run that is timed: back to back, by up to two threads, by three and by more, and with work between
-// them. Through a mutex there are as many as two threads take.
-const TURNS_OF_TWO: u32 = 1_920_000;
-
-const TURNS_OF_THREE: u32 = 192_000;
-
-const TURNS_OF_MANY: u32 = 38_400;
-
-const TURNS_WITH_WORK: u32 = 19_200;
+// The length of one run that is timed.
+const RUN_MILLIS: u64 = 250;
 
 // Steps of work that are timed, for the length of one.
 const TRIED_STEPS: u64 = 1 << 20;
@@ -29,13 +22,15 @@ const RUNS: u32 = 5;
 const WORK_NANOS: u64 = 9_000;
 
 /// How many turns short runs take.
-pub fn print_counts<R: Threads + Wait + Sync + Print + AllocGlobal>(rt: &R) -> io::Result<()> {
+pub fn print_counts<R: Threads + Wait + Sync + Print + AllocGlobal + Clock>(
+    rt: &R,
+) -> io::Result<()> {
     print_count(rt, 1, 600)?;
     print_count(rt, 2, 300)?;
     print_count(rt, 4, 150)
 }
 
-fn print_count<R: Threads + Wait + Sync + Print + AllocGlobal>(
+fn print_count<R: Threads + Wait + Sync + Print + AllocGlobal + Clock>(
     rt: &R,
     threads: u32,
     turns: u32,
@@ -45,6 +40,7 @@ fn print_count<R: Threads + Wait + Sync + Print + AllocGlobal>(
         turns,
         steps: 10,
         awaited: 0,
+        limit: None,
     };
     let small = run_turn_lock::<(), R>(rt, rt.alloc(), &load)?;
     let large = run_turn_lock::<[u64; 62], R>(rt, rt.alloc(), &load)?;
@@ -82,34 +78,21 @@ fn steps_of<R: Clock>(rt: &R, nanos: u64) -> io::Result<u64>
     Ok(nanos * TRIED_STEPS / best.max(1))
 }
 
-fn turns_of(threads: u32, steps: u64) -> u32 {
-    match (steps, threads) {
-        (0, 0..=2) => TURNS_OF_TWO,
-        (0, 3) => TURNS_OF_THREE,
-        (0, _) => TURNS_OF_MANY,
-        _ => TURNS_WITH_WORK,
-    }
-}
-
 fn print_time<P: Padding, R: Threads + Wait + Sync + Print + AllocGlobal + Clock>(
     rt: &R,
     size: &str,
     threads: u32,
     steps: u64,
 ) -> io::Result<()> {
-    let load = load_of(threads, turns_of(threads, steps), steps);
-    let mut turn_lock = u128::MAX;
+    let mut turn_lock = u64::MAX;
+    let mut mutex = u64::MAX;
     for _ in 0..RUNS {
-        let start = Instant::now(rt)?;
-        run_turn_lock::<P, R>(rt, rt.alloc(), &load)?;
-        turn_lock = turn_lock.min(nanos_a_turn(start.elapsed(rt)?, &load));
-    }
-    let load = load_of(threads, turns_of(2, steps), steps);
-    let mut mutex = u128::MAX;
-    for _ in 0..RUNS {
-        let start = Instant::now(rt)?;
-        run_mutex::<P, R>(rt, rt.alloc(), &load)?;
-        mutex = mutex.min(nanos_a_turn(start.elapsed(rt)?, &load));
+        let load = timed(rt, threads, steps)?;
+        let turns = run_turn_lock::<P, R>(rt, rt.alloc(), &load)?;
+        turn_lock = turn_lock.min(nanos_a_turn(rt, &load, turns)?);
+        let load = timed(rt, threads, steps)?;
+        let turns = run_mutex::<P, R>(rt, rt.alloc(), &load)?;
+        mutex = mutex.min(nanos_a_turn(rt, &load, turns)?);
     }
     let between = if steps == 0 {
         "back to back"
@@ -119,16 +102,25 @@ fn print_time<P: Padding, R: Threads + Wait + Sync + Print + AllocGlobal + Clock
     println!(rt; "{size}, {between}, {threads} threads: {turn_lock} ns a turn, {mutex} of a mutex")
 }
 
-fn load_of(threads: u32, turns: u32, steps: u64) -> Load {
-    Load {
+// A run that begins now.
+fn timed<R: Clock>(rt: &R, threads: u32, steps: u64) -> io::Result<Load> {
+    let limit = Limit {
+        start: Instant::now(rt)?,
+        length: Duration::from_millis(RUN_MILLIS),
+    };
+    Ok(Load {
         threads,
-        turns: turns / threads.max(1),
+        turns: u32::MAX,
         steps,
         awaited: threads,
-    }
+        limit: Some(limit),
+    })
 }
 
-fn nanos_a_turn(taken: Duration, load: &Load) -> u128 {
-    let turns = u128::from(load.threads) * u128::from(load.turns);
-    taken.as_nanos() / turns.max(1)
+fn nanos_a_turn<R: Clock>(rt: &R, load: &Load, turns: u64) -> io::Result<u64> {
+    let Some(limit) = load.limit else {
+        return Ok(0);
+    };
+    let taken = limit.start.elapsed(rt)?.as_nanos() / u128::from(turns.max(1));
+    Ok(u64::try_from(taken).unwrap_or(u64::MAX))
 }
