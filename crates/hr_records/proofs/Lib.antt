@@ -1,0 +1,4 @@
+pub mod Options
+pub mod SameEvents
+pub mod RuleLemmas
+pub mod JobLemmas
