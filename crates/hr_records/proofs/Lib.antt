@@ -2,3 +2,14 @@ pub mod Options
 pub mod SameEvents
 pub mod RuleLemmas
 pub mod JobLemmas
+pub mod Places
+pub mod Born
+pub mod NumberSteps
+pub mod ViewWords
+pub mod Allowed
+pub mod NumberLemmas
+pub mod JobWords
+pub mod GiveLemmas
+pub mod Beginnings
+pub mod ReplicaSteps
+pub mod LeadSteps

@@ -1,1 +1,4 @@
 pub mod ByRule
+pub mod Numbers
+pub mod AtReplica
+pub mod Leads
