@@ -126,3 +126,6 @@ module _ (f r : ℕ) (h : History) (lt : r < 2 * f + 1) where
           | inr gave_way ↦ inr (sym (preempted_seen f r h lt t) ∙ gave_way)
         ];
       }
+
+  pub lost_taken : IsJobOf (view_of f h) r job.Restart → (settled (journal_of r h)).lost ≡ true
+  lost_taken is = sym (lost_seen f r h lt) ∙ is.rule

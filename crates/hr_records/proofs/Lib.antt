@@ -13,3 +13,6 @@ pub mod GiveLemmas
 pub mod Beginnings
 pub mod ReplicaSteps
 pub mod LeadSteps
+pub mod ReplicaLemmas
+pub mod LeadLemmas
+pub mod KeptLemmas
