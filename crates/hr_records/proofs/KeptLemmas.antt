@@ -73,7 +73,7 @@ at_start = record {
     active place e = cc
 
 -- a transaction that may be decided was asked for
-decided_asked : (f t : ℕ) (h : History) → IsBorn (length (begun h)) t → IsTrue (is_decidable (view_of f h) t) → is_asked (phase_of t h) ≡ true
+pub decided_asked : (f t : ℕ) (h : History) → IsBorn (length (begun h)) t → IsTrue (is_decidable (view_of f h) t) → is_asked (phase_of t h) ≡ true
 decided_asked f t h born is =
     ap is_asked (sym (phase_seen f t h born)) ∙ (and_parts (is_asked (phase_in (view_of f h) t)) (nat_le (f + 1) (count_by (agrees (view_of f h) t) (replica_numbers f))) is).0
 

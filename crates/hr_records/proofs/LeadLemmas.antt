@@ -372,9 +372,9 @@ module _ (h : History) (k : Kept h) (r : ℕ) where
       runs : (b : Bool) → (q == r) ≡ b → (t : ℕ) → ((b && (txn == t) && is_touched t J) || is_preempted r t h) ≡ true → 1 ≤ length (attempt t J)
       runs b e t now = elim (or_cases (b && (txn == t) && is_touched t J) (is_preempted r t h) now) [
         | inl new ↦ (
-          let two = and_parts (b && (txn == t)) (is_touched t J) new in
-          let one = and_parts b (txn == t) two.0 in
-          subst (λ u. 1 ≤ length (attempt u J)) (eqb-true txn t one.1) (attempted (eqb-true q r (e ∙ one.0))))
+            let two = and_parts (b && (txn == t)) (is_touched t J) new in
+            let one = and_parts b (txn == t) two.0 in
+            subst (λ u. 1 ≤ length (attempt u J)) (eqb-true txn t one.1) (attempted (eqb-true q r (e ∙ one.0))))
         | inr was ↦ its.preempts t was
       ]
 

@@ -16,3 +16,4 @@ pub mod LeadSteps
 pub mod ReplicaLemmas
 pub mod LeadLemmas
 pub mod KeptLemmas
+pub mod Counts

@@ -96,7 +96,7 @@ module _ (h : History) (k : Kept h) (r : ℕ) where
             takes (λ t. submits t h) (log h) (out_at r h) J its j
             (λ t i e. index t i same (run_taken f q h lt t i k.numbers (subst (IsJobOf (view_of f h) q) e is)))
             (λ t e. (let c = commit_taken f q h lt t k.numbers (subst (IsJobOf (view_of f h) q) e is) in
-              (subst (λ p. slice_get (log h) (count (journal_of p h)) ≡ Some t) same c.next, subst (λ p. length (attempt t (journal_of p h)) ≡ length (submits t h)) same c.whole)))
+            (subst (λ p. slice_get (log h) (count (journal_of p h)) ≡ Some t) same c.next, subst (λ p. length (attempt t (journal_of p h)) ≡ length (submits t h)) same c.whole)))
             (λ other. subst (λ p. (settled (journal_of p h)).lost ≡ false) same (live_taken j is other))
             (λ e. subst (λ p. (settled (journal_of p h)).lost ≡ true) same (lost_taken f q h lt (subst (IsJobOf (view_of f h) q) e is)))
           where
