@@ -42,7 +42,7 @@ use Rattle.hr_records.specs.ByRule.{IsJobOf, IsElected, GivesWay}
 use Rattle.hr_records.specs.Numbers.{IsBorn, NumbersAt}
 use Rattle.hr_records.specs.Leads.{Leads, LeadsAt}
 use Rattle.hr_records.specs.Kept.{Kept}
-use Rattle.hr_records.proofs.Options.{some_none, same_some, find_none, in_range}
+use Rattle.hr_records.proofs.Options.{some_none, same_some, first_none, none_mapped, find_none, in_range}
 use Rattle.hr_records.proofs.Places.{same_or_not, if_same, if_other}
 use Rattle.hr_records.proofs.Born.{born_or_not}
 use Rattle.hr_records.proofs.NumberSteps.{not_both, open_unlogged}
@@ -54,20 +54,12 @@ use Rattle.hr_records.proofs.GiveLemmas.{is_given, is_given_at, given_not, given
 use Rattle.hr_records.proofs.ReplicaLemmas.{ended_out, still_out}
 use Rattle.hr_records.proofs.LeadSteps.{calm, closes, goes, elects, takes, gives_elsewhere, silent, runs_on, all_end, one_ends, preempted_more}
 
-first_none : {X : Type 0} (o : Option X) (os : List (Option X)) → first_some (o ∷ os) ≡ None → (o ≡ None) × (first_some os ≡ None)
-first_none None os e = (refl, e)
-first_none (Some x) os e = absurd (some_none x e)
-
 -- where nothing is due, nobody has to be refused for the primary's going
 pub none_for_gone : (f : ℕ) (h : History) → due f h ≡ None → primary_gone (view_of f h) (turn_of h) ≡ None
 none_for_gone f h e =
     let a = first_none (owed_conviction (view_of f h) (turn_of h)) _ e in
     let b = first_none (convict (view_of f h) (turn_of h)) _ a.1 in
     (first_none (primary_gone (view_of f h) (turn_of h)) _ b.1).0
-
-none_mapped : (g : ℕ → Event) (o : Option ℕ) → option_map g o ≡ None → o ≡ None
-none_mapped g None e = refl
-none_mapped g (Some t) e = absurd (some_none (g t) e)
 
 -- so none is open, where it went
 none_open_by : (f : ℕ) (h : History) (o : Option Gone) → option_and_then (refuse_for (view_of f h) (turn_of h)) o ≡ None → is_some o ≡ true → (t : ℕ) → IsBorn (length (begun h)) t → is_open (phase_of t h) ≡ true → ⊥

@@ -17,3 +17,4 @@ pub mod ReplicaLemmas
 pub mod LeadLemmas
 pub mod KeptLemmas
 pub mod Counts
+pub mod SameLists

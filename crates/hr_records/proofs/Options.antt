@@ -45,6 +45,14 @@ found_by : (p : ℕ → Bool) (y : ℕ) (xs : List ℕ) (x : ℕ) (b : Bool) →
 found_by p y xs x true passes rest e = let same : y ≡ x = same_some y x e in (or_left (y == x) (has xs x) (eq-eqb y x same), ap p (sym same) ∙ passes)
 found_by p y xs x false fails rest e = let r = rest e in (has_tail x y xs r.0, r.1)
 
+pub first_none : {X : Type 0} (o : Option X) (os : List (Option X)) → first_some (o ∷ os) ≡ None → (o ≡ None) × (first_some os ≡ None)
+first_none None os e = (refl, e)
+first_none (Some x) os e = absurd (some_none x e)
+
+pub none_mapped : {X Y : Type 0} (g : X → Y) (o : Option X) → option_map g o ≡ None → o ≡ None
+none_mapped g None e = refl
+none_mapped g (Some x) e = absurd (some_none (g x) e)
+
 pub find_has : (p : ℕ → Bool) (xs : List ℕ) (x : ℕ) → find p xs ≡ Some x → (has xs x ≡ true) × (p x ≡ true)
 find_has p [] x e = absurd (some_none x (sym e))
 find_has p (y ∷ xs) x e = found_by p y xs x (p y) refl (find_has p xs x) e

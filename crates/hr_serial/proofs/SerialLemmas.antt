@@ -28,6 +28,7 @@ use Rattle.hr_history.specs.Votes.{is_ready, agrees, is_decidable}
 use Rattle.hr_history.specs.Faithful.{Begun, Correct}
 use Rattle.hr_history.proofs.SameAnswersLemmas.{same_answer_decides}
 use Rattle.hr_records.specs.Kept.{Kept}
+use Rattle.hr_records.proofs.SameLists.{same_lists}
 use Rattle.hr_records.proofs.Counts.{one_outside}
 use Rattle.hr_records.proofs.RuleLemmas.{begun_before, by_rule, asked_is_open}
 use Rattle.hr_records.proofs.ViewWords.{txn_born, given_seen, answers_seen}
@@ -39,14 +40,6 @@ use Rattle.hr_serial.proofs.Distinct.{zip_end}
 use Rattle.hr_serial.proofs.Processed.{whole_attempt}
 use Rattle.hr_serial.proofs.Frozen.{frozen}
 use Rattle.hr_serial.proofs.PlayedAt.{serial-end, played_at}
-
-pub same_lists : (xs ys : List Answer) → same_answers xs ys ≡ true → xs ≡ ys
-same_lists [] [] e = refl
-same_lists [] (y ∷ ys) e = cc
-same_lists (x ∷ xs) [] e = cc
-same_lists (x ∷ xs) (y ∷ ys) e =
-    let parts = and_parts (same_answer x y) (same_answers xs ys) e in
-    λ i. (same_answer_decides x y).0 parts.0 i ∷ same_lists xs ys parts.1 i
 
 -- at a decision one correct replica answered as was given, so the given answers are those of a serial run
 decided_serial : (f t : ℕ) (db : Database) (h : History) → Kept h → (1 ≤ t) × (t ≤ length (view_of f h).txns) → IsTrue (is_decidable (view_of f h) t) → LiarsAreAtMost f f db h
