@@ -25,7 +25,8 @@ use Rattle.hr_records.proofs.Beginnings.{begins_more, begins_chain}
 use Rattle.hr_records.proofs.Allowed.{begin_allowed, may_go_on, none_open}
 use Rattle.hr_records.proofs.RuleLemmas.{begun_before, by_rule, asked_is_open}
 use Rattle.hr_records.proofs.ViewWords.{txn_born, open_seen}
-use Rattle.hr_records.proofs.KeptLemmas.{kept, decided_asked}
+use Rattle.hr_records.proofs.KeptLemmas.{kept}
+use Rattle.hr_records.proofs.Closed.{phase_stands}
 use Rattle.hr_decisions.specs.Order.{WasDecided, HasNotBegun, IsLater, AreOf}
 
 -- the log only grows
@@ -91,32 +92,7 @@ later f s t u place more h b decided unborn = (stays, comes_later)
       | inr new ↦ omega (arith, new, (numbered_born (log h) place u at).1)
     ]
 
--- a transaction that is closed keeps its phase
-asked_only : (txn t : ℕ) (h : History) (p : Phase) → is_open (phase_of txn h) ≡ true → is_open (phase_of t h) ≡ false → (if txn == t then p else phase_of t h) ≡ phase_of t h
-asked_only txn t h p o closed = if_other txn t p (phase_of t h) (λ same. not_both (is_open (phase_of t h)) (ap (λ x. is_open (phase_of x h)) (sym same) ∙ o) closed)
-
 module _ (f s c : ℕ) (h : History) (k : Kept h) where
-  closed_stays : (e : Event) → Begun f s (record { caller = c; event = e } ∷ h) → (t : ℕ) → is_open (phase_of t h) ≡ false → phase_of t (record { caller = c; event = e } ∷ h) ≡ phase_of t h
-  closed_stays (event.Begin session txn) b t closed =
-      phase_at_begin h k.numbers txn (begin_allowed f s c h session txn (call_allowed f s record { caller = c; event = event.Begin session txn } h b refl)).0 t
-  closed_stays (event.Submit txn index stmt) b t closed = refl
-  closed_stays (event.AskCommit txn) b t closed =
-      asked_only txn t h _ (may_go_on f c txn h (call_allowed f s record { caller = c; event = event.AskCommit txn } h b refl)).is_open closed
-  closed_stays (event.AskRollback txn) b t closed =
-      asked_only txn t h phase.RolledBack (may_go_on f c txn h (call_allowed f s record { caller = c; event = event.AskRollback txn } h b refl)).is_open closed
-  closed_stays (event.Take r j) b t closed = refl
-  closed_stays (event.Give r told) b t closed = refl
-  closed_stays (event.Restarted r n) b t closed = refl
-  closed_stays event.Suspect b t closed = refl
-  closed_stays (event.Decide txn) b t closed =
-      let rule = by_rule f s record { caller = c; event = event.Decide txn } h b refl in
-      asked_only txn t h _ (asked_is_open (phase_of txn h) (decided_asked f txn h (txn_born f txn h rule.0) rule.1)) closed
-  closed_stays (event.Refuse txn x) b t closed =
-      asked_only txn t h phase.Refused (open_seen f txn h (by_rule f s record { caller = c; event = event.Refuse txn x } h b refl).0).1 closed
-  closed_stays (event.Convict r x) b t closed = refl
-  closed_stays (event.NewPrimary r) b t closed = refl
-  closed_stays (event.Preempt r txn) b t closed = refl
-
   -- both were the session's before, or the later one begins now and the earlier one is closed
   earlier_by : (e : Event) → Begun f s (record { caller = c; event = e } ∷ h) → (q t u : ℕ) → AreOf q t u (record { caller = c; event = e } ∷ h) → t < u
       → AreOf q t u h ⊎ (is_open (phase_of t h) ≡ false) × (is_open (phase_of u h) ≡ true)
@@ -176,7 +152,7 @@ ordered f s (e ∷ h) b q t u are lt = by_before (earlier_by f s e.caller h k e.
     }
       where
         stays : phase_of t (e ∷ h) ≡ phase_of t h
-        stays = closed_stays f s e.caller h k e.event b t closed
+        stays = phase_stands f s e h k b t closed
 
         grows : Begins (log h) (log (e ∷ h))
         grows = log_grows_by e.caller e.event h

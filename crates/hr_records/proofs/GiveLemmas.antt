@@ -22,7 +22,7 @@ use Rattle.hr_history.specs.Faithful.{fits_job}
 use Rattle.hr_records.specs.Numbers.{IsBorn, IsBalanced, Numbers, NumbersAt}
 use Rattle.hr_records.proofs.Options.{some_none, same_some}
 use Rattle.hr_records.proofs.Places.{same_or_not, numbered_some}
-use Rattle.hr_records.proofs.NumberSteps.{answered, redirected, goes_on}
+use Rattle.hr_records.proofs.NumberSteps.{open_unlogged, answered, redirected, stays_out}
 use Rattle.hr_records.proofs.NumberLemmas.{told_as_before, not_replied}
 use Rattle.hr_records.proofs.Allowed.{ran_out}
 use Rattle.hr_records.proofs.JobWords.{primary_is, RunTaken}
@@ -93,12 +93,6 @@ module _ (h : History) (g : NumbersAt h) where
 
   -- a Done
   module _ (c r t i : ℕ) (a : Answer) (out : out_at r h ≡ Some (job.Run t i)) where
-    now : ℕ → Given
-    now u = record { answer = a; stamp = length (log h) }
-
-    given_now : ℕ → List Given
-    given_now u = if is_given u r h then given_to u h ++ record { answer = a; stamp = length (log h) } ∷ [] else given_to u h
-
     abbrev Waits : ℕ → Bool
     Waits q = is_waiting (reply_if (gives_to q r (out_at r h) h) (told.Answered a) (reply_to q h))
 
@@ -144,11 +138,11 @@ module _ (h : History) (g : NumbersAt h) where
         let le : length (given_to t h) + 1 ≤ length (submits t h) = omega (arith, where_.0, run.1) in
         let gives_now : (q : ℕ) → gives_to q r (out_at r h) h ≡ is_of q t h = λ q. gives q ∙ ap (λ b. is_of q t h && b) is ∙ and_true (is_of q t h) in
         let next : Numbers (begun h) (λ u. phase_of u h) (log h) (λ u. length (submits u h)) Answers Waits (λ q. out_at q h) =
-        goes_on (begun h) (λ u. phase_of u h) (log h) (λ u. length (submits u h)) (λ u. length (given_to u h)) (λ q. is_waiting (reply_to q h)) (λ q. out_at q h) g
-        t session.0 session.1 where_.2 (λ u. phase_of u h) (log h) (λ u. length (submits u h)) Answers Waits
+        stays_out (begun h) (λ u. phase_of u h) (log h) (λ u. length (submits u h)) (λ u. length (given_to u h)) (λ q. is_waiting (reply_to q h)) (λ q. out_at q h) g
+        t session.0 session.1 where_.2 (λ u. phase_of u h) (λ u. length (submits u h)) Answers Waits
         (λ u other. refl) (λ u other. refl) (λ u other. other_given u other)
         (λ q other. ap (λ b. is_waiting (reply_if b (told.Answered a) (reply_to q h))) (gives_now q) ∙ told_as_before t session.0 h session.1 q (told.Answered a) (reply_to q h) other)
-        g.logged (omega arith)
+        (λ place e. open_unlogged (phase_of t h) place where_.2 e) (omega arith)
         (subst (λ n. IsBalanced (phase_of t h) (length (submits t h)) n (Waits session.0)) (sym more)
         (answered (phase_of t h) (length (submits t h)) (length (given_to t h)) (is_waiting (reply_to session.0 h)) (Waits session.0) where_.2 le (g.balance t session.0 session.1))) in
         redirected (begun h) (λ u. phase_of u h) (log h) (λ u. length (submits u h)) Answers Waits (λ q. out_at q h) next

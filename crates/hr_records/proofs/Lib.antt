@@ -18,3 +18,4 @@ pub mod LeadLemmas
 pub mod KeptLemmas
 pub mod Counts
 pub mod SameLists
+pub mod Closed

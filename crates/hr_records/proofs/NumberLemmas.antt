@@ -35,7 +35,7 @@ use Rattle.hr_records.specs.ByRule.{IsTxn, IsRunOf, IsJobOf, Follows}
 use Rattle.hr_records.proofs.Options.{some_none, same_some}
 use Rattle.hr_records.proofs.Places.{same_or_not, if_same, if_other, numbered_born, numbered_some}
 use Rattle.hr_records.proofs.RuleLemmas.{asked_is_open}
-use Rattle.hr_records.proofs.NumberSteps.{not_both, open_unlogged, settled_balance, given_le, answered, begins, redirected, not_decided, is_decided, goes_on}
+use Rattle.hr_records.proofs.NumberSteps.{not_both, open_unlogged, settled_balance, given_le, answered, begins, redirected, stays_out, is_logged}
 use Rattle.hr_records.proofs.ViewWords.{txn_born, phase_seen, open_seen}
 use Rattle.hr_records.proofs.Allowed.{GoesOn, none_open, begin_allowed, submit_allowed, take_allowed, give_allowed, restart_allowed, ran_out}
 
@@ -90,9 +90,6 @@ decided_balance phase.RolledBack s g w z place a b = cc
 decided_balance phase.Refused s g w z place a b = cc
 
 module _ (h : History) (g : NumbersAt h) where
-  phases : ℕ → Phase
-  phases t = phase_of t h
-
   -- what a Begin leaves as it was: the new number had nothing
   module _ (txn : ℕ) (next : txn ≡ length (begun h) + 1) where
     unborn : (t : ℕ) → txn ≡ t → IsBorn (length (begun h)) t → ⊥
@@ -135,22 +132,24 @@ module _ (h : History) (g : NumbersAt h) where
       (subst (λ n. Numbers (begun h ++ session ∷ []) (λ t. phase_of t h) (log h) n (λ t. length (if txn == t then [] else given_to t h)) (λ s. is_waiting (reply_to s h)) (λ r. out_at r h)) subs
       (subst (λ n. Numbers (begun h ++ session ∷ []) (λ t. phase_of t h) (log h) (λ t. length (submits t h)) n (λ s. is_waiting (reply_to s h)) (λ r. out_at r h)) givs same))
 
-  -- the words of a transaction's step
-  module _ (t : ℕ) where
-    length_more : (b : Bool) (stmt : Stmt) → b ≡ true → length (if b then submits t h ++ stmt ∷ [] else submits t h) ≡ length (submits t h) + 1
-    length_more true stmt e = length-append (submits t h) (stmt ∷ [])
-    length_more false stmt e = cc
+  length_more : (b : Bool) (t : ℕ) (stmt : Stmt) → b ≡ true → length (if b then submits t h ++ stmt ∷ [] else submits t h) ≡ length (submits t h) + 1
+  length_more true t stmt e = length-append (submits t h) (stmt ∷ [])
+  length_more false t stmt e = cc
+
+  -- while its session waits for nothing
+  idle_balance : (txn : ℕ) (on : GoesOn txn h) → IsBalanced (phase_of txn h) (length (submits txn h)) (length (given_to txn h)) false
+  idle_balance txn on = subst (λ w. IsBalanced (phase_of txn h) (length (submits txn h)) (length (given_to txn h)) w) on.idle (g.balance txn on.session on.its)
 
   pub at_submit : (c txn index : ℕ) (stmt : Stmt) → GoesOn txn h → NumbersAt (record { caller = c; event = event.Submit txn index stmt } ∷ h)
   at_submit c txn index stmt on =
       let s = on.session in
-      let more = length_more txn (txn == txn) stmt (eq-eqb txn txn refl) in
-      let idle : IsBalanced (phase_of txn h) (length (submits txn h)) (length (given_to txn h)) false = subst (λ w. IsBalanced (phase_of txn h) (length (submits txn h)) (length (given_to txn h)) w) on.idle (g.balance txn s on.its) in
-      let answered_all = settled_balance (phase_of txn h) _ _ on.is_open idle in
-      goes_on (begun h) (λ t. phase_of t h) (log h) (λ t. length (submits t h)) (λ t. length (given_to t h)) (λ q. is_waiting (reply_to q h)) (λ r. out_at r h) g
-      txn s on.its on.is_open (λ t. phase_of t h) (log h) (λ t. length (next_submits t (event.Submit txn index stmt) (submits t h))) (λ t. length (given_to t h)) (λ q. is_waiting (if is_of q txn h then Waiting else reply_to q h))
+      let more = length_more (txn == txn) txn stmt (eq-eqb txn txn refl) in
+      let idle = idle_balance txn on in
+      stays_out (begun h) (λ t. phase_of t h) (log h) (λ t. length (submits t h)) (λ t. length (given_to t h)) (λ q. is_waiting (reply_to q h)) (λ r. out_at r h) g
+      txn s on.its on.is_open (λ t. phase_of t h) (λ t. length (next_submits t (event.Submit txn index stmt) (submits t h))) (λ t. length (given_to t h)) (λ q. is_waiting (if is_of q txn h then Waiting else reply_to q h))
       (λ t other. refl) (λ t other. ap length (if_other txn t _ (submits t h) other)) (λ t other. refl) (λ q other. waits_as_before txn s h on.its q (reply_to q h) other)
-      g.logged (omega (arith, more)) (active (phase_of txn h) _ _ _ _ on.is_open (now_waits txn s h on.its (reply_to s h)) idle answered_all more)
+      (λ place e. open_unlogged (phase_of txn h) place on.is_open e) (omega (arith, more))
+      (active (phase_of txn h) _ _ _ _ on.is_open (now_waits txn s h on.its (reply_to s h)) idle (settled_balance (phase_of txn h) _ _ on.is_open idle) more)
     where
       active : (p : Phase) (a b now : ℕ) (w : Bool) → is_open p ≡ true → w ≡ true → IsBalanced p a b false → a ≡ b → now ≡ a + 1 → IsBalanced p now b w
       active phase.Active a b now w o waits was e more = (omega (arith, e, more), omega (arith, e, more), λ idle. absurd (not_both w waits idle))
@@ -162,18 +161,15 @@ module _ (h : History) (g : NumbersAt h) where
   pub at_ask : (c txn : ℕ) → GoesOn txn h → NumbersAt (record { caller = c; event = event.AskCommit txn } ∷ h)
   at_ask c txn on =
       let s = on.session in
-      let idle : IsBalanced (phase_of txn h) (length (submits txn h)) (length (given_to txn h)) false = subst (λ w. IsBalanced (phase_of txn h) (length (submits txn h)) (length (given_to txn h)) w) on.idle (g.balance txn s on.its) in
-      let now : (if txn == txn then phase.Asked (asks h + 1) else phase_of txn h) ≡ phase.Asked (asks h + 1) = if_same txn txn (phase.Asked (asks h + 1)) (phase_of txn h) refl in
-      goes_on (begun h) (λ t. phase_of t h) (log h) (λ t. length (submits t h)) (λ t. length (given_to t h)) (λ q. is_waiting (reply_to q h)) (λ r. out_at r h) g
-      txn s on.its on.is_open (λ t. if txn == t then phase.Asked (asks h + 1) else phase_of t h) (log h) (λ t. length (submits t h)) (λ t. length (given_to t h)) (λ q. is_waiting (if is_of q txn h then Waiting else reply_to q h))
-      (λ t other. if_other txn t (phase.Asked (asks h + 1)) (phase_of t h) other) (λ t other. refl) (λ t other. refl) (λ q other. waits_as_before txn s h on.its q (reply_to q h) other)
-      (not_decided (begun h) (λ t. phase_of t h) (log h) (λ t. length (submits t h)) (λ t. length (given_to t h)) (λ q. is_waiting (reply_to q h)) (λ r. out_at r h) g
-      txn s on.its on.is_open (λ t. if txn == t then phase.Asked (asks h + 1) else phase_of t h) (log h) (λ t. length (submits t h)) (λ t. length (given_to t h)) (λ q. is_waiting (if is_of q txn h then Waiting else reply_to q h))
-      (λ t other. if_other txn t (phase.Asked (asks h + 1)) (phase_of t h) other) (λ t other. refl) (λ t other. refl) (λ q other. waits_as_before txn s h on.its q (reply_to q h) other)
-      (λ place e. asked_unlogged (asks h + 1) place (sym now ∙ e)))
+      let end = phase.Asked (asks h + 1) in
+      let now : (if txn == txn then end else phase_of txn h) ≡ end = if_same txn txn end (phase_of txn h) refl in
+      stays_out (begun h) (λ t. phase_of t h) (log h) (λ t. length (submits t h)) (λ t. length (given_to t h)) (λ q. is_waiting (reply_to q h)) (λ r. out_at r h) g
+      txn s on.its on.is_open (λ t. if txn == t then end else phase_of t h) (λ t. length (submits t h)) (λ t. length (given_to t h)) (λ q. is_waiting (if is_of q txn h then Waiting else reply_to q h))
+      (λ t other. if_other txn t end (phase_of t h) other) (λ t other. refl) (λ t other. refl) (λ q other. waits_as_before txn s h on.its q (reply_to q h) other)
+      (λ place e. asked_unlogged (asks h + 1) place (sym now ∙ e))
       (omega arith)
       (subst (λ p. IsBalanced p (length (submits txn h)) (length (given_to txn h)) (is_waiting (if is_of s txn h then Waiting else reply_to s h))) (sym now)
-      (settled_balance (phase_of txn h) _ _ on.is_open idle, now_waits txn s h on.its (reply_to s h)))
+      (settled_balance (phase_of txn h) _ _ on.is_open (idle_balance txn on), now_waits txn s h on.its (reply_to s h)))
 
   -- a transaction ends, rolled back or refused
   ends : (txn s : ℕ) → session_of txn h ≡ Some s → is_open (phase_of txn h) ≡ true → (end : Phase) → ((place : ℕ) → end ≡ phase.Logged place → ⊥)
@@ -182,13 +178,10 @@ module _ (h : History) (g : NumbersAt h) where
       → Numbers (begun h) (λ t. if txn == t then end else phase_of t h) (log h) (λ t. length (submits t h)) (λ t. length (given_to t h)) waits (λ r. out_at r h)
   ends txn s its o end unlogged balanced waits same =
       let now : (if txn == txn then end else phase_of txn h) ≡ end = if_same txn txn end (phase_of txn h) refl in
-      goes_on (begun h) (λ t. phase_of t h) (log h) (λ t. length (submits t h)) (λ t. length (given_to t h)) (λ q. is_waiting (reply_to q h)) (λ r. out_at r h) g
-      txn s its o (λ t. if txn == t then end else phase_of t h) (log h) (λ t. length (submits t h)) (λ t. length (given_to t h)) waits
+      stays_out (begun h) (λ t. phase_of t h) (log h) (λ t. length (submits t h)) (λ t. length (given_to t h)) (λ q. is_waiting (reply_to q h)) (λ r. out_at r h) g
+      txn s its o (λ t. if txn == t then end else phase_of t h) (λ t. length (submits t h)) (λ t. length (given_to t h)) waits
       (λ t other. if_other txn t end (phase_of t h) other) (λ t other. refl) (λ t other. refl) same
-      (not_decided (begun h) (λ t. phase_of t h) (log h) (λ t. length (submits t h)) (λ t. length (given_to t h)) (λ q. is_waiting (reply_to q h)) (λ r. out_at r h) g
-      txn s its o (λ t. if txn == t then end else phase_of t h) (log h) (λ t. length (submits t h)) (λ t. length (given_to t h)) waits
-      (λ t other. if_other txn t end (phase_of t h) other) (λ t other. refl) (λ t other. refl) same
-      (λ place e. unlogged place (sym now ∙ e)))
+      (λ place e. unlogged place (sym now ∙ e))
       (omega arith)
       (subst (λ p. IsBalanced p (length (submits txn h)) (length (given_to txn h)) (waits s)) (sym now) (balanced _ _ _ (waits s) (g.balance txn s its)))
 
@@ -212,13 +205,9 @@ module _ (h : History) (g : NumbersAt h) where
       let end = phase.Logged (length (log h) + 1) in
       let r = told.Committed (length (log h) + 1) in
       let now : (if txn == txn then end else phase_of txn h) ≡ end = if_same txn txn end (phase_of txn h) refl in
-      goes_on (begun h) (λ t. phase_of t h) (log h) (λ t. length (submits t h)) (λ t. length (given_to t h)) (λ q. is_waiting (reply_to q h)) (λ r. out_at r h) g
-      txn s its o (λ t. if txn == t then end else phase_of t h) (log h ++ txn ∷ []) (λ t. length (submits t h)) (λ t. length (given_to t h)) (λ q. is_waiting (reply_if (is_of q txn h) r (reply_to q h)))
+      is_logged (begun h) (λ t. phase_of t h) (log h) (λ t. length (submits t h)) (λ t. length (given_to t h)) (λ q. is_waiting (reply_to q h)) (λ r. out_at r h) g
+      txn s its o (λ t. if txn == t then end else phase_of t h) (λ t. length (submits t h)) (λ t. length (given_to t h)) (λ q. is_waiting (reply_if (is_of q txn h) r (reply_to q h)))
       (λ t other. if_other txn t end (phase_of t h) other) (λ t other. refl) (λ t other. refl) (λ q other. told_as_before txn s h its q r (reply_to q h) other)
-      (is_decided (begun h) (λ t. phase_of t h) (log h) (λ t. length (submits t h)) (λ t. length (given_to t h)) (λ q. is_waiting (reply_to q h)) (λ r. out_at r h) g
-      txn s its o (λ t. if txn == t then end else phase_of t h) (log h ++ txn ∷ []) (λ t. length (submits t h)) (λ t. length (given_to t h)) (λ q. is_waiting (reply_if (is_of q txn h) r (reply_to q h)))
-      (λ t other. if_other txn t end (phase_of t h) other) (λ t other. refl) (λ t other. refl) (λ q other. told_as_before txn s h its q r (reply_to q h) other)
-      now)
-      (omega arith)
+      now (omega arith)
       (subst (λ p. IsBalanced p (length (submits txn h)) (length (given_to txn h)) (is_waiting (reply_if (is_of s txn h) r (reply_to s h)))) (sym now)
       (decided_balance (phase_of txn h) (length (submits txn h)) (length (given_to txn h)) (is_waiting (reply_to s h)) (is_waiting (reply_if (is_of s txn h) r (reply_to s h))) (length (log h) + 1) asked (g.balance txn s its)))

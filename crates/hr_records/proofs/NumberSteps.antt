@@ -106,7 +106,7 @@ module _ (sessions : List ℕ) (phases : ℕ → Phase) (decided : List ℕ) (su
 
   -- One open transaction goes on, and its session begins or ends to wait. All else stays.
   module _ (txn s : ℕ) (its : numbered sessions txn ≡ Some s) (was_open : is_open (phases txn) ≡ true)
-      (phases_now : ℕ → Phase) (decided_now : List ℕ) (sub_now giv_now : ℕ → ℕ) (waits_now : ℕ → Bool)
+      (phases_now : ℕ → Phase) (sub_now giv_now : ℕ → ℕ) (waits_now : ℕ → Bool)
       (other_phase : (t : ℕ) → (txn ≡ t → ⊥) → phases_now t ≡ phases t) (other_sub : (t : ℕ) → (txn ≡ t → ⊥) → sub_now t ≡ sub t)
       (other_giv : (t : ℕ) → (txn ≡ t → ⊥) → giv_now t ≡ giv t) (other_waits : (q : ℕ) → (q ≡ s → ⊥) → waits_now q ≡ waits q) where
     born : IsBorn (length sessions) txn
@@ -119,7 +119,7 @@ module _ (sessions : List ℕ) (phases : ℕ → Phase) (decided : List ℕ) (su
     was_open_too t now = elim (same_or_not txn t) [ inl same ↦ (ap (λ u. is_open (phases u)) (sym same) ∙ was_open) | inr other ↦ (ap is_open (sym (other_phase t other)) ∙ now) ]
 
     -- the log stays, where it isn't decided
-    pub not_decided : ((place : ℕ) → phases_now txn ≡ phase.Logged place → ⊥) → (t place : ℕ) → (phases_now t ≡ phase.Logged place) ↔ (numbered decided place ≡ Some t)
+    not_decided : ((place : ℕ) → phases_now txn ≡ phase.Logged place → ⊥) → (t place : ℕ) → (phases_now t ≡ phase.Logged place) ↔ (numbered decided place ≡ Some t)
     not_decided never t place = (there, back)
       where
         there : phases_now t ≡ phase.Logged place → numbered decided place ≡ Some t
@@ -136,7 +136,7 @@ module _ (sessions : List ℕ) (phases : ℕ → Phase) (decided : List ℕ) (su
               | inr other ↦ (other_phase t other ∙ before)
             ]
 
-    pub is_decided : phases_now txn ≡ phase.Logged (length decided + 1) → (t place : ℕ) → (phases_now t ≡ phase.Logged place) ↔ (numbered (decided ++ txn ∷ []) place ≡ Some t)
+    is_decided : phases_now txn ≡ phase.Logged (length decided + 1) → (t place : ℕ) → (phases_now t ≡ phase.Logged place) ↔ (numbered (decided ++ txn ∷ []) place ≡ Some t)
     is_decided now t place = (there, back)
       where
         there : phases_now t ≡ phase.Logged place → numbered (decided ++ txn ∷ []) place ≡ Some t
@@ -157,9 +157,9 @@ module _ (sessions : List ℕ) (phases : ℕ → Phase) (decided : List ℕ) (su
         back at = elim (numbered_more decided txn place t at) [ inl before ↦ old before | inr new ↦ (ap phases_now (sym new.1) ∙ now ∙ ap phase.Logged (sym new.0)) ]
 
     -- its numbers are balanced again
-    pub goes_on : ((t place : ℕ) → (phases_now t ≡ phase.Logged place) ↔ (numbered decided_now place ≡ Some t)) → sub txn ≤ sub_now txn → IsBalanced (phases_now txn) (sub_now txn) (giv_now txn) (waits_now s)
+    goes_on : (decided_now : List ℕ) → ((t place : ℕ) → (phases_now t ≡ phase.Logged place) ↔ (numbered decided_now place ≡ Some t)) → sub txn ≤ sub_now txn → IsBalanced (phases_now txn) (sub_now txn) (giv_now txn) (waits_now s)
         → Numbers sessions phases_now decided_now sub_now giv_now waits_now out
-    goes_on logged more balanced = record {
+    goes_on decided_now logged more balanced = record {
       unborn = λ t unborn. (let u = g.unborn t unborn in let n = not_it t unborn in (other_phase t n ∙ u.0, other_sub t n ∙ u.1, other_giv t n ∙ u.2));
       alone = λ t u q at_t at_u open_t open_u. g.alone t u q at_t at_u (was_open_too t open_t) (was_open_too u open_u);
       logged = logged;
@@ -190,3 +190,13 @@ module _ (sessions : List ℕ) (phases : ℕ → Phase) (decided : List ℕ) (su
             of_other t q other (waits_now q) (rewait (phases t) (sub t) (giv t) (waits q) (waits_now q) (closed t q other at same (is_open (phases t)) refl) (g.balance t q at))
         balance_of t q at (inr other) (inr elsewhere) =
             subst (λ w. IsBalanced (phases_now t) (sub_now t) (giv_now t) w) (sym (other_waits q elsewhere)) (of_other t q other (waits q) (g.balance t q at))
+
+    -- its phase is no place in the log
+    pub stays_out : ((place : ℕ) → phases_now txn ≡ phase.Logged place → ⊥) → sub txn ≤ sub_now txn → IsBalanced (phases_now txn) (sub_now txn) (giv_now txn) (waits_now s)
+        → Numbers sessions phases_now decided sub_now giv_now waits_now out
+    stays_out never more balanced = goes_on decided (not_decided never) more balanced
+
+    -- it is decided
+    pub is_logged : phases_now txn ≡ phase.Logged (length decided + 1) → sub txn ≤ sub_now txn → IsBalanced (phases_now txn) (sub_now txn) (giv_now txn) (waits_now s)
+        → Numbers sessions phases_now (decided ++ txn ∷ []) sub_now giv_now waits_now out
+    is_logged now more balanced = goes_on (decided ++ txn ∷ []) (is_decided now) more balanced

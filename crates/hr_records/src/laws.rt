@@ -4,7 +4,8 @@ ghost use Rattle.hr_history.specs.declared.entry.Entry.{Entry};
 ghost use Rattle.hr_history.specs.declared.entry.Event.TheVariants.{Begin, Submit};
 ghost use Rattle.hr_history.specs.declared.job.Job.{Job};
 ghost use Rattle.hr_history.specs.History.{History, is_call};
-ghost use Rattle.hr_history.specs.Transactions.{begun, submits};
+ghost use Rattle.hr_history.specs.Transactions.{begun, submits, phase_of, is_open};
+ghost use Rattle.hr_history.specs.Given.{given_to};
 ghost use Rattle.hr_history.specs.Jobs.{job_in};
 ghost use Rattle.hr_history.specs.Rules.{due};
 ghost use Rattle.hr_history.specs.Turn.{turn_of};
@@ -52,4 +53,12 @@ pub fn part_of_each_replica()
 /// The primary's attempts of open transactions have as many answers as were given, and no other replica's have more.
 pub fn part_of_the_primary()
     ensures { (f sessions : ℕ) (h : History) (r : ℕ) → Begun f sessions h → LeadsAt r h }
+{}
+
+/// What is decided, refused or rolled back stands: its phase with its place in the log, its statements, and the answers
+/// given to it, which are the accepted ones of a decided transaction.
+pub fn closed_stands()
+    ensures phase { (f sessions t : ℕ) (e : Entry) (before : History) → Begun f sessions (e ∷ before) → is_open (phase_of t before) ≡ false → phase_of t (e ∷ before) ≡ phase_of t before }
+    ensures statements { (f sessions t : ℕ) (e : Entry) (before : History) → Begun f sessions (e ∷ before) → is_open (phase_of t before) ≡ false → submits t (e ∷ before) ≡ submits t before }
+    ensures answers { (f sessions t : ℕ) (e : Entry) (before : History) → Begun f sessions (e ∷ before) → is_open (phase_of t before) ≡ false → given_to t (e ∷ before) ≡ given_to t before }
 {}

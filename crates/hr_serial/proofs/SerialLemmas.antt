@@ -38,7 +38,7 @@ use Rattle.hr_serial.specs.Prefix.{log_statements}
 use Rattle.hr_serial.specs.Serial.{accepted, AreSerial, LiarsAreAtMost, is_decide, AtEachDecide}
 use Rattle.hr_serial.proofs.Distinct.{zip_end}
 use Rattle.hr_serial.proofs.Processed.{whole_attempt}
-use Rattle.hr_serial.proofs.Frozen.{frozen}
+use Rattle.hr_records.proofs.Closed.{frozen}
 use Rattle.hr_serial.proofs.PlayedAt.{serial-end, played_at}
 
 -- at a decision one correct replica answered as was given, so the given answers are those of a serial run

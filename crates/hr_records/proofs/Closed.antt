@@ -1,5 +1,5 @@
--- What was submitted and given of a closed transaction stands.
-use Rattle.std.proofs.Common.{◌≡◌, ◌⊎◌, inl, inr, ℕ, suc, ◌+◌, Bool, true, false, Option, Some, None, List, [], ◌∷◌, ◌++◌, length, map, slice_get, refl, ap, sym, ◌∙◌}
+-- What is known of a closed transaction stands: its phase, its statements and its answers.
+use Rattle.std.proofs.Common.{◌≡◌, ◌⊎◌, inl, inr, ℕ, suc, ◌+◌, Bool, true, false, if◌then◌else◌, ◌==◌, Option, Some, None, List, [], ◌∷◌, ◌++◌, length, map, slice_get, refl, ap, sym, ◌∙◌}
 use Rattle.hr_rel.specs.declared.answer.Answer.{Answer}
 use Rattle.hr_rel.specs.declared.stmt.Stmt.{Stmt}
 use Rattle.hr_engine.specs.declared.reply.RunReply.TheVariants as run
@@ -7,6 +7,8 @@ use Rattle.hr_history.specs.declared.entry.Entry.{Entry}
 use Rattle.hr_history.specs.declared.entry.Event.{Event}
 use Rattle.hr_history.specs.declared.entry.Event.TheVariants as event
 use Rattle.hr_history.specs.declared.job.Job.TheVariants as job
+use Rattle.hr_history.specs.declared.phase.Phase.{Phase}
+use Rattle.hr_history.specs.declared.phase.Phase.TheVariants as phase
 use Rattle.hr_history.specs.declared.job.JobReply.{JobReply}
 use Rattle.hr_history.specs.declared.job.JobReply.TheVariants as reply
 use Rattle.hr_history.specs.History.{History}
@@ -18,8 +20,11 @@ use Rattle.hr_history.proofs.StepLemmas.{call_allowed}
 use Rattle.hr_records.specs.Kept.{Kept}
 use Rattle.hr_records.proofs.Places.{same_or_not, if_other}
 use Rattle.hr_records.proofs.NumberSteps.{not_both}
-use Rattle.hr_records.proofs.NumberLemmas.{submits_at_begin, given_at_begin}
-use Rattle.hr_records.proofs.Allowed.{begin_allowed, submit_allowed, give_allowed, ran_out}
+use Rattle.hr_records.proofs.NumberLemmas.{phase_at_begin, submits_at_begin, given_at_begin}
+use Rattle.hr_records.proofs.Allowed.{begin_allowed, submit_allowed, give_allowed, may_go_on, ran_out}
+use Rattle.hr_records.proofs.RuleLemmas.{by_rule, asked_is_open}
+use Rattle.hr_records.proofs.ViewWords.{txn_born, open_seen}
+use Rattle.hr_records.proofs.KeptLemmas.{decided_asked}
 use Rattle.hr_records.proofs.GiveLemmas.{is_given, given_where, given_not, no_more}
 
 pub open_other : (t u : ℕ) (h : History) → is_open (phase_of t h) ≡ true → is_open (phase_of u h) ≡ false → t ≡ u → ⊥
@@ -70,3 +75,32 @@ module _ (f s c : ℕ) (h : History) (k : Kept h) where
 
 pub frozen : (f s : ℕ) (e : Entry) (h : History) → Kept h → Begun f s (e ∷ h) → (t : ℕ) → is_open (phase_of t h) ≡ false → (submits t (e ∷ h) ≡ submits t h) × (given_to t (e ∷ h) ≡ given_to t h)
 frozen f s e h k begun t closed = frozen_by f s e.caller h k e.event begun t closed
+
+-- a transaction that is closed keeps its phase
+asked_only : (txn t : ℕ) (h : History) (p : Phase) → is_open (phase_of txn h) ≡ true → is_open (phase_of t h) ≡ false → (if txn == t then p else phase_of t h) ≡ phase_of t h
+asked_only txn t h p o closed = if_other txn t p (phase_of t h) (λ same. not_both (is_open (phase_of t h)) (ap (λ x. is_open (phase_of x h)) (sym same) ∙ o) closed)
+
+module _ (f s c : ℕ) (h : History) (k : Kept h) where
+  closed_stays : (e : Event) → Begun f s (record { caller = c; event = e } ∷ h) → (t : ℕ) → is_open (phase_of t h) ≡ false → phase_of t (record { caller = c; event = e } ∷ h) ≡ phase_of t h
+  closed_stays (event.Begin session txn) b t closed =
+      phase_at_begin h k.numbers txn (begin_allowed f s c h session txn (call_allowed f s record { caller = c; event = event.Begin session txn } h b refl)).0 t
+  closed_stays (event.Submit txn index stmt) b t closed = refl
+  closed_stays (event.AskCommit txn) b t closed =
+      asked_only txn t h _ (may_go_on f c txn h (call_allowed f s record { caller = c; event = event.AskCommit txn } h b refl)).is_open closed
+  closed_stays (event.AskRollback txn) b t closed =
+      asked_only txn t h phase.RolledBack (may_go_on f c txn h (call_allowed f s record { caller = c; event = event.AskRollback txn } h b refl)).is_open closed
+  closed_stays (event.Take r j) b t closed = refl
+  closed_stays (event.Give r told) b t closed = refl
+  closed_stays (event.Restarted r n) b t closed = refl
+  closed_stays event.Suspect b t closed = refl
+  closed_stays (event.Decide txn) b t closed =
+      let rule = by_rule f s record { caller = c; event = event.Decide txn } h b refl in
+      asked_only txn t h _ (asked_is_open (phase_of txn h) (decided_asked f txn h (txn_born f txn h rule.0) rule.1)) closed
+  closed_stays (event.Refuse txn x) b t closed =
+      asked_only txn t h phase.Refused (open_seen f txn h (by_rule f s record { caller = c; event = event.Refuse txn x } h b refl).0).1 closed
+  closed_stays (event.Convict r x) b t closed = refl
+  closed_stays (event.NewPrimary r) b t closed = refl
+  closed_stays (event.Preempt r txn) b t closed = refl
+
+pub phase_stands : (f s : ℕ) (e : Entry) (h : History) → Kept h → Begun f s (e ∷ h) → (t : ℕ) → is_open (phase_of t h) ≡ false → phase_of t (e ∷ h) ≡ phase_of t h
+phase_stands f s e h k begun t closed = closed_stays f s e.caller h k e.event begun t closed
