@@ -1,12 +1,10 @@
 -- What an allowed call shows.
-use Rattle.std.proofs.Common.{◌≡◌, ◌⊎◌, inl, inr, ℕ, zero, suc, ◌+◌, ◌*◌, ◌<◌, ◌≤◌, Bool, true, false, not, ◌&&◌, ◌==◌, nat_le, nat_lt, Option, Some, None, unwrap_or, List, [], ◌∷◌, length, refl, ap, sym, ◌∙◌, arith}
+use Rattle.std.proofs.Common.{◌≡◌, inl, inr, ℕ, ◌+◌, ◌*◌, ◌<◌, Bool, true, false, not, ◌&&◌, ◌==◌, nat_le, nat_lt, Option, Some, None, List, [], ◌∷◌, length, refl, ap, ◌∙◌, arith}
 use Rattle.std.specs.List.{list_any}
 use Rattle.std.proofs.lemmas.Bool.{and_parts, or_cases, or_left, or_right, eqb-true, eq-eqb, leb-true, and_from}
-use Rattle.hr_base.specs.Lists.{has, one_to, numbered}
+use Rattle.hr_base.specs.Lists.{has, one_to}
 use Rattle.hr_base.specs.declared.limits.TheConstants.{MAX_SUBMITS, MAX_STATEMENTS}
-use Rattle.hr_rel.specs.declared.answer.Answer.{Answer}
 use Rattle.hr_rel.specs.declared.stmt.Stmt.{Stmt}
-use Rattle.hr_history.specs.declared.entry.Event.{Event}
 use Rattle.hr_history.specs.declared.entry.Event.TheVariants as event
 use Rattle.hr_history.specs.declared.job.Job.{Job}
 use Rattle.hr_history.specs.declared.job.Job.TheVariants as job
@@ -17,12 +15,10 @@ use Rattle.hr_history.specs.History.{History}
 use Rattle.hr_history.specs.Transactions.{begun, session_of, submits, submitted, phase_of, is_open}
 use Rattle.hr_history.specs.Primary.{is_some_of}
 use Rattle.hr_history.specs.Replicas.{out_at}
-use Rattle.hr_history.specs.SameAnswers.{is_canonical}
 use Rattle.hr_history.specs.Replies.{reply_to, is_waiting, is_of}
 use Rattle.hr_history.specs.View.{view_of}
 use Rattle.hr_history.specs.Jobs.{job_in}
 use Rattle.hr_history.specs.Faithful.{is_allowed, session_caller, owns, waits_for_reply, may_go_on_with, has_open, is_replica, is_job, fits_job, is_restart}
-use Rattle.hr_records.specs.Numbers.{IsBorn}
 use Rattle.hr_records.specs.ByRule.{IsJobOf}
 use Rattle.hr_records.proofs.Options.{in_range}
 use Rattle.hr_records.proofs.Places.{numbered_born}

@@ -1,7 +1,5 @@
 -- What is known of a closed transaction stands: its phase, its statements and its answers.
-use Rattle.std.proofs.Common.{◌≡◌, ◌⊎◌, inl, inr, ℕ, suc, ◌+◌, Bool, true, false, if◌then◌else◌, ◌==◌, Option, Some, None, List, [], ◌∷◌, ◌++◌, length, map, slice_get, refl, ap, sym, ◌∙◌}
-use Rattle.hr_rel.specs.declared.answer.Answer.{Answer}
-use Rattle.hr_rel.specs.declared.stmt.Stmt.{Stmt}
+use Rattle.std.proofs.Common.{◌≡◌, ◌⊎◌, inl, inr, ℕ, Bool, true, false, if◌then◌else◌, ◌==◌, Some, ◌∷◌, refl, ap, sym, ◌∙◌}
 use Rattle.hr_engine.specs.declared.reply.RunReply.TheVariants as run
 use Rattle.hr_history.specs.declared.entry.Entry.{Entry}
 use Rattle.hr_history.specs.declared.entry.Event.{Event}
@@ -12,9 +10,9 @@ use Rattle.hr_history.specs.declared.phase.Phase.TheVariants as phase
 use Rattle.hr_history.specs.declared.job.JobReply.{JobReply}
 use Rattle.hr_history.specs.declared.job.JobReply.TheVariants as reply
 use Rattle.hr_history.specs.History.{History}
-use Rattle.hr_history.specs.Transactions.{begun, log, submits, phase_of, is_open}
+use Rattle.hr_history.specs.Transactions.{begun, submits, phase_of, is_open}
 use Rattle.hr_history.specs.Replicas.{out_at}
-use Rattle.hr_history.specs.Given.{Given, given_to}
+use Rattle.hr_history.specs.Given.{given_to}
 use Rattle.hr_history.specs.Faithful.{Begun, fits_job}
 use Rattle.hr_history.proofs.StepLemmas.{call_allowed}
 use Rattle.hr_records.specs.Kept.{Kept}

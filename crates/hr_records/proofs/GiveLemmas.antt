@@ -1,23 +1,20 @@
 -- What a reply makes of numbers, and of what was given.
-use Rattle.std.proofs.Common.{◌≡◌, ◌⊎◌, inl, inr, ℕ, zero, suc, ◌+◌, ◌*◌, ◌<◌, ◌≤◌, Bool, true, false, not, cond, ◌==◌, ◌&&◌, if◌then◌else◌, Option, Some, None, List, [], ◌∷◌, ◌++◌, length, refl, ap, sym, ◌∙◌, subst, arith, length-append}
+use Rattle.std.proofs.Common.{◌≡◌, ◌⊎◌, inl, inr, ℕ, ◌+◌, ◌≤◌, Bool, true, false, ◌==◌, ◌&&◌, if◌then◌else◌, Option, Some, None, List, [], ◌∷◌, ◌++◌, length, refl, ap, sym, ◌∙◌, subst, arith, length-append}
 use Rattle.std.proofs.lemmas.Bool.{and_parts, eqb-true, eq-eqb, ne_eqb}
-use Rattle.hr_base.specs.Lists.{numbered}
 use Rattle.hr_rel.specs.declared.answer.Answer.{Answer}
-use Rattle.hr_engine.specs.declared.reply.RunReply.{RunReply}
 use Rattle.hr_engine.specs.declared.reply.RunReply.TheVariants as run
 use Rattle.hr_history.specs.declared.entry.Event.TheVariants as event
 use Rattle.hr_history.specs.declared.job.Job.{Job}
 use Rattle.hr_history.specs.declared.job.Job.TheVariants as job
 use Rattle.hr_history.specs.declared.job.JobReply.{JobReply}
 use Rattle.hr_history.specs.declared.job.JobReply.TheVariants as reply
-use Rattle.hr_history.specs.declared.reply.Reply.{Reply}
 use Rattle.hr_history.specs.declared.reply.Reply.TheVariants as told
 use Rattle.hr_history.specs.History.{History}
-use Rattle.hr_history.specs.Transactions.{begun, session_of, log, submits, phase_of, is_open}
-use Rattle.hr_history.specs.Replicas.{out_at, next_out}
+use Rattle.hr_history.specs.Transactions.{begun, log, submits, phase_of, is_open}
+use Rattle.hr_history.specs.Replicas.{out_at}
 use Rattle.hr_history.specs.Primary.{primary_of, is_some_of}
-use Rattle.hr_history.specs.Given.{Given, found, given_to, given_by, is_run_of, is_primary_run}
-use Rattle.hr_history.specs.Replies.{ReplyState, reply_to, reply_if, gives_to, is_waiting, is_of}
+use Rattle.hr_history.specs.Given.{Given, found, given_to, is_run_of, is_primary_run}
+use Rattle.hr_history.specs.Replies.{reply_to, reply_if, gives_to, is_waiting, is_of}
 use Rattle.hr_history.specs.Faithful.{fits_job}
 use Rattle.hr_records.specs.Numbers.{IsBorn, IsBalanced, Numbers, NumbersAt}
 use Rattle.hr_records.proofs.Options.{some_none, same_some}

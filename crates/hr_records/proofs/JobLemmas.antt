@@ -1,7 +1,7 @@
 -- The job of a replica is its by the rule for such jobs.
-use Rattle.std.proofs.Common.{◌≡◌, ◌⊎◌, inl, inr, ℕ, Bool, true, false, not, ◌||◌, ◌&&◌, cond, Option, Some, None, is_some, option_map, option_and_then, find, filter, [], ◌∷◌, refl, ap, sym, ◌∙◌}
-use Rattle.std.proofs.lemmas.Bool.{and_parts, or_parts}
-use Rattle.hr_base.specs.Lists.{has, first_some, when}
+use Rattle.std.proofs.Common.{◌≡◌, inl, inr, ℕ, Bool, true, false, ◌||◌, ◌&&◌, cond, Option, Some, None, is_some, option_map, find, filter, [], ◌∷◌, refl, sym}
+use Rattle.std.proofs.lemmas.Bool.{or_parts}
+use Rattle.hr_base.specs.Lists.{first_some, when}
 use Rattle.hr_base.proofs.ListLaws.{has-filter}
 use Rattle.hr_history.specs.declared.job.Job.{Job}
 use Rattle.hr_history.specs.declared.job.Job.TheVariants as job
@@ -10,8 +10,8 @@ use Rattle.hr_history.specs.View.{View}
 use Rattle.hr_history.specs.Processed.{replica_in, answers_in, given_in, is_whole, is_primary}
 use Rattle.hr_history.specs.Ranks.{ranks_before, first_in_rank}
 use Rattle.hr_history.specs.Jobs.{txn_numbers, is_to_roll_back, rollback_job, next_in_log, commit_job, next_index, may_repeat, pending_index, may_run_first, run_job, job_in}
-use Rattle.hr_records.specs.ByRule.{IsTxn, IsRunOf, IsByRule, IsJobOf}
-use Rattle.hr_records.proofs.Options.{On, some_none, same_some, on_some, when_on, first_on, then_on, map_on, find_has, first_by_has}
+use Rattle.hr_records.specs.ByRule.{IsTxn, IsByRule, IsJobOf}
+use Rattle.hr_records.proofs.Options.{On, some_none, on_some, when_on, first_on, then_on, map_on, find_has, first_by_has}
 use Rattle.hr_records.proofs.RuleLemmas.{txn_has}
 
 module _ (v : View) (r : ℕ) where

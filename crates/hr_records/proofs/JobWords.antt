@@ -1,11 +1,10 @@
 -- What a job that is taken shows of its transaction, in words of the history.
-use Rattle.std.proofs.Common.{◌≡◌, ◌⊎◌, inl, inr, ℕ, zero, suc, ◌+◌, ◌*◌, ◌<◌, ◌≤◌, Bool, true, false, not, ◌&&◌, ◌||◌, ◌==◌, nat_le, Option, Some, None, slice_get, List, [], ◌∷◌, length, map, refl, ap, sym, ◌∙◌, subst, arith, IsTrue}
+use Rattle.std.proofs.Common.{◌≡◌, ◌⊎◌, inl, inr, ℕ, suc, ◌+◌, ◌*◌, ◌<◌, ◌≤◌, true, false, not, ◌&&◌, ◌||◌, nat_le, Option, Some, None, slice_get, List, length, refl, ap, sym, ◌∙◌, arith}
 use Rattle.std.proofs.lemmas.Bool.{and_parts, or_cases, eqb-true, leb-true}
 use Rattle.std.proofs.lemmas.List.{length-map}
 use Rattle.hr_rel.specs.declared.answer.Answer.{Answer}
 use Rattle.hr_engine.specs.Attempts.{RanStmt, attempt, answers}
 use Rattle.hr_engine.specs.Base.{count, settled}
-use Rattle.hr_history.specs.declared.job.Job.{Job}
 use Rattle.hr_history.specs.declared.job.Job.TheVariants as job
 use Rattle.hr_history.specs.declared.phase.Phase.{Phase}
 use Rattle.hr_history.specs.declared.phase.Phase.TheVariants as phase
@@ -13,16 +12,15 @@ use Rattle.hr_history.specs.History.{History}
 use Rattle.hr_history.specs.Transactions.{begun, log, submits, phase_of, is_open, is_ended}
 use Rattle.hr_history.specs.Primary.{primary_of, is_some_of}
 use Rattle.hr_history.specs.Replicas.{journal_of}
-use Rattle.hr_history.specs.Given.{Given, given_to, answers_given}
+use Rattle.hr_history.specs.Given.{Given, given_to}
 use Rattle.hr_history.specs.Attempts.{is_preempted}
 use Rattle.hr_history.specs.SameAnswers.{same_answers}
-use Rattle.hr_history.specs.View.{View, TxnState, view_of}
-use Rattle.hr_history.specs.Processed.{txn_in, phase_in, replica_in, attempt_in, answers_in, given_in, is_whole, is_primary, is_committed, processed_in}
-use Rattle.hr_history.specs.Jobs.{next_in_log, next_index, may_repeat, pending_index, may_run_first, may_go_on, is_stamped_by, is_to_roll_back}
+use Rattle.hr_history.specs.View.{view_of}
+use Rattle.hr_history.specs.Processed.{txn_in, phase_in, replica_in, attempt_in, answers_in, given_in, is_whole, is_committed, processed_in}
+use Rattle.hr_history.specs.Jobs.{pending_index, may_go_on, is_stamped_by}
 use Rattle.hr_history.specs.Transactions.{is_logged}
-use Rattle.hr_records.specs.Numbers.{IsBorn, IsBalanced, Numbers, NumbersAt}
-use Rattle.hr_records.specs.ByRule.{IsTxn, IsRunOf, IsByRule, IsJobOf}
-use Rattle.hr_records.proofs.Options.{some_none, same_some}
+use Rattle.hr_records.specs.Numbers.{IsBorn, NumbersAt}
+use Rattle.hr_records.specs.ByRule.{IsJobOf}
 use Rattle.hr_records.proofs.Places.{got_within, numbered_some}
 use Rattle.hr_records.proofs.NumberSteps.{given_le, open_unlogged}
 use Rattle.hr_records.proofs.Born.{born_or_not}

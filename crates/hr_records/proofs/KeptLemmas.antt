@@ -1,34 +1,27 @@
 -- What every history keeps that has begun rightly: in one induction, entry by entry.
-use Rattle.std.proofs.Common.{◌≡◌, ◌⊎◌, inl, inr, ℕ, zero, suc, ◌+◌, ◌*◌, ◌<◌, ◌≤◌, Bool, true, false, ◌&&◌, ◌==◌, nat_le, Option, Some, None, List, [], ◌∷◌, ◌++◌, length, map, count_by, refl, ap, sym, ◌∙◌, subst, arith, IsTrue}
+use Rattle.std.proofs.Common.{◌≡◌, inl, ℕ, zero, suc, ◌+◌, true, nat_le, Some, [], ◌∷◌, length, count_by, refl, ap, sym, ◌∙◌, subst, arith, IsTrue}
 use Rattle.std.proofs.lemmas.Bool.{and_parts}
 use Rattle.hr_base.specs.Lists.{numbered}
-use Rattle.hr_rel.specs.declared.stmt.Stmt.{Stmt}
-use Rattle.hr_engine.specs.Attempts.{statements}
 use Rattle.hr_history.specs.declared.entry.Entry.{Entry}
 use Rattle.hr_history.specs.declared.entry.Event.{Event}
 use Rattle.hr_history.specs.declared.entry.Event.TheVariants as event
-use Rattle.hr_history.specs.declared.job.Job.{Job}
 use Rattle.hr_history.specs.declared.job.Job.TheVariants as job
 use Rattle.hr_history.specs.declared.phase.Phase.TheVariants as phase
-use Rattle.hr_history.specs.History.{History, is_call}
-use Rattle.hr_history.specs.Transactions.{begun, phase_of, is_open, is_asked}
+use Rattle.hr_history.specs.History.{History}
+use Rattle.hr_history.specs.Transactions.{begun, phase_of, is_asked}
 use Rattle.hr_history.specs.View.{view_of}
 use Rattle.hr_history.specs.Processed.{phase_in}
 use Rattle.hr_history.specs.Votes.{is_decidable, agrees}
 use Rattle.hr_history.specs.ReplicaNumbers.{replica_numbers}
-use Rattle.hr_history.specs.Rules.{due}
-use Rattle.hr_history.specs.Turn.{turn_of}
-use Rattle.hr_history.specs.Faithful.{Begun, is_begun, is_allowed, may_go_on_with}
+use Rattle.hr_history.specs.Faithful.{Begun}
 use Rattle.hr_history.proofs.StepLemmas.{call_allowed}
-use Rattle.hr_records.specs.ByRule.{Follows, IsJobOf}
-use Rattle.hr_records.specs.Numbers.{IsBorn, NumbersAt}
-use Rattle.hr_records.specs.AtReplica.{AtReplicaAt}
-use Rattle.hr_records.specs.Leads.{LeadsAt}
+use Rattle.hr_records.specs.ByRule.{IsJobOf}
+use Rattle.hr_records.specs.Numbers.{IsBorn}
 use Rattle.hr_records.specs.Kept.{Kept}
 use Rattle.hr_records.proofs.Options.{some_none}
 use Rattle.hr_records.proofs.RuleLemmas.{begun_before, by_rule, nothing_due}
 use Rattle.hr_records.proofs.ViewWords.{txn_born, phase_seen, open_seen}
-use Rattle.hr_records.proofs.Allowed.{GoesOn, may_go_on, none_open, begin_allowed, submit_allowed, take_allowed, give_allowed, restart_allowed}
+use Rattle.hr_records.proofs.Allowed.{may_go_on, none_open, begin_allowed, submit_allowed, take_allowed, give_allowed, restart_allowed}
 use Rattle.hr_records.proofs.NumberLemmas.{at_begin, at_submit, at_ask, at_rollback, at_refuse, at_decide}
 use Rattle.hr_records.proofs.GiveLemmas.{at_restarted, at_take, at_give}
 use Rattle.hr_records.proofs.JobWords.{run_taken}

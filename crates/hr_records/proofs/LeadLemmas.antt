@@ -1,17 +1,16 @@
 -- What every history keeps of the primary's part, entry by entry.
-use Rattle.std.proofs.Common.{◌≡◌, ◌⊎◌, inl, inr, ℕ, zero, suc, ◌+◌, ◌*◌, ◌<◌, ◌≤◌, Bool, true, false, not, cond, ◌==◌, ◌&&◌, ◌||◌, if◌then◌else◌, Option, Some, None, Ok, Err, is_some, option_map, option_and_then, find, List, [], ◌∷◌, ◌++◌, length, refl, ap, sym, ◌∙◌, subst, arith, length-append}
+use Rattle.std.proofs.Common.{◌≡◌, ◌⊎◌, inl, inr, ℕ, suc, ◌+◌, ◌*◌, ◌<◌, ◌≤◌, Bool, true, false, not, ◌==◌, ◌&&◌, ◌||◌, if◌then◌else◌, Option, Some, None, is_some, option_map, option_and_then, find, List, [], ◌∷◌, ◌++◌, length, refl, ap, sym, ◌∙◌, subst, arith, length-append}
 use Rattle.std.proofs.lemmas.Bool.{and_parts, or_cases, or_right, eqb-true, eq-eqb, ne_eqb}
-use Rattle.hr_base.specs.Lists.{has, is_empty, first_some, when, one_to}
+use Rattle.hr_base.specs.Lists.{has, is_empty}
 use Rattle.hr_rel.specs.declared.answer.Answer.{Answer}
 use Rattle.hr_rel.specs.declared.stmt.Stmt.{Stmt}
 use Rattle.hr_engine.specs.declared.reply.RunReply.{RunReply}
 use Rattle.hr_engine.specs.declared.reply.RunReply.TheVariants as run
 use Rattle.hr_engine.specs.declared.reply.EndReply.{EndReply}
 use Rattle.hr_engine.specs.declared.reply.EndReply.TheVariants as end
-use Rattle.hr_engine.specs.Journal.{Call, Ran, Committed, RolledBack, Restarted, Journal}
-use Rattle.hr_engine.specs.Attempts.{RanStmt, attempt, answers}
+use Rattle.hr_engine.specs.Journal.{Call, Ran, Committed, RolledBack, Journal}
+use Rattle.hr_engine.specs.Attempts.{attempt}
 use Rattle.hr_engine.specs.Base.{settled, count}
-use Rattle.hr_history.specs.declared.entry.Event.{Event}
 use Rattle.hr_history.specs.declared.entry.Event.TheVariants as event
 use Rattle.hr_history.specs.declared.job.Job.{Job}
 use Rattle.hr_history.specs.declared.job.Job.TheVariants as job
@@ -19,37 +18,35 @@ use Rattle.hr_history.specs.declared.job.JobReply.{JobReply}
 use Rattle.hr_history.specs.declared.job.JobReply.TheVariants as reply
 use Rattle.hr_history.specs.declared.cause.CauseAt.{CauseAt}
 use Rattle.hr_history.specs.declared.cause.CauseAt.TheVariants as cause
-use Rattle.hr_history.specs.declared.cause.Why.{Why}
 use Rattle.hr_history.specs.declared.cause.Why.TheVariants as why
 use Rattle.hr_history.specs.declared.evidence.Evidence.{Evidence}
 use Rattle.hr_history.specs.declared.phase.Phase.{Phase}
 use Rattle.hr_history.specs.declared.phase.Phase.TheVariants as phase
 use Rattle.hr_history.specs.History.{History}
-use Rattle.hr_history.specs.Transactions.{begun, log, asks, submits, phase_of, is_open}
+use Rattle.hr_history.specs.Transactions.{begun, log, asks, phase_of, is_open}
 use Rattle.hr_history.specs.Primary.{primary_of, is_some_of, other_than}
-use Rattle.hr_history.specs.Replicas.{out_at, stmt_at, call_of, call_if, restart_of, restart_if, next_journal, journal_of, tells_loss}
-use Rattle.hr_history.specs.Given.{Given, given_to}
+use Rattle.hr_history.specs.Replicas.{out_at, stmt_at, call_of, call_if, restart_of, restart_if, next_journal, journal_of}
+use Rattle.hr_history.specs.Given.{given_to}
 use Rattle.hr_history.specs.Attempts.{is_touched, is_preempted, unless_ended}
-use Rattle.hr_history.specs.Turn.{Turn, Gone, gone_if, went, turn_of}
-use Rattle.hr_history.specs.View.{View, view_of}
-use Rattle.hr_history.specs.Processed.{phase_in, replica_in, answers_in, runs_in, is_primary, live_in}
-use Rattle.hr_history.specs.Preemption.{stays, is_held_up, is_last_of_cycle, is_to_give_way}
+use Rattle.hr_history.specs.Turn.{Gone, gone_if, went, turn_of}
+use Rattle.hr_history.specs.View.{view_of}
+use Rattle.hr_history.specs.Processed.{phase_in, replica_in, answers_in, runs_in}
+use Rattle.hr_history.specs.Preemption.{stays}
 use Rattle.hr_history.specs.Jobs.{txn_numbers}
-use Rattle.hr_history.specs.Rules.{refuse_for, primary_gone, due_in, due, owed_conviction, convict}
+use Rattle.hr_history.specs.Rules.{refuse_for, primary_gone, due, owed_conviction, convict}
 use Rattle.hr_history.specs.Faithful.{fits_job}
-use Rattle.std.specs.List.{list_any}
 use Rattle.hr_records.specs.ByRule.{IsJobOf, IsElected, GivesWay}
-use Rattle.hr_records.specs.Numbers.{IsBorn, NumbersAt}
+use Rattle.hr_records.specs.Numbers.{IsBorn}
 use Rattle.hr_records.specs.Leads.{Leads, LeadsAt}
 use Rattle.hr_records.specs.Kept.{Kept}
 use Rattle.hr_records.proofs.Options.{some_none, same_some, first_none, none_mapped, find_none, in_range}
 use Rattle.hr_records.proofs.Places.{same_or_not, if_same, if_other}
 use Rattle.hr_records.proofs.Born.{born_or_not}
-use Rattle.hr_records.proofs.NumberSteps.{not_both, open_unlogged}
+use Rattle.hr_records.proofs.NumberSteps.{not_both}
 use Rattle.hr_records.proofs.NumberLemmas.{phase_at_begin, given_at_begin}
 use Rattle.hr_records.proofs.ViewWords.{how_many, phase_seen, lost_seen, answers_seen}
 use Rattle.hr_records.proofs.Allowed.{ran_out}
-use Rattle.hr_records.proofs.JobWords.{primary_is, many, RunTaken, run_taken, commit_taken, rollback_taken}
+use Rattle.hr_records.proofs.JobWords.{many, RunTaken, run_taken, commit_taken, rollback_taken}
 use Rattle.hr_records.proofs.GiveLemmas.{is_given, is_given_at, given_not, given_where, one_more, no_more, at_least}
 use Rattle.hr_records.proofs.ReplicaLemmas.{ended_out, still_out}
 use Rattle.hr_records.proofs.LeadSteps.{calm, closes, goes, elects, takes, gives_elsewhere, silent, runs_on, all_end, one_ends, preempted_more}

@@ -1,43 +1,24 @@
 -- What every history keeps of numbers and phases, entry by entry.
-use Rattle.std.proofs.Common.{◌≡◌, ◌⊎◌, ◌↔◌, inl, inr, ℕ, zero, suc, ◌+◌, ◌*◌, ◌<◌, ◌≤◌, Bool, true, false, not, cond, ◌==◌, ◌&&◌, if◌then◌else◌, Option, Some, None, List, [], ◌∷◌, ◌++◌, length, refl, ap, sym, ◌∙◌, subst, arith, length-append}
-use Rattle.std.proofs.lemmas.Bool.{and_parts, eqb-true, eq-eqb, ne_eqb}
-use Rattle.hr_base.specs.Lists.{numbered}
-use Rattle.hr_rel.specs.declared.answer.Answer.{Answer}
+use Rattle.std.proofs.Common.{◌≡◌, inl, inr, ℕ, ◌+◌, Bool, true, false, ◌==◌, if◌then◌else◌, Some, List, [], ◌∷◌, ◌++◌, length, refl, ap, sym, ◌∙◌, subst, arith, length-append}
+use Rattle.std.proofs.lemmas.Bool.{eq-eqb, ne_eqb}
 use Rattle.hr_rel.specs.declared.stmt.Stmt.{Stmt}
-use Rattle.hr_engine.specs.declared.reply.RunReply.{RunReply}
-use Rattle.hr_engine.specs.declared.reply.RunReply.TheVariants as run
-use Rattle.hr_history.specs.declared.entry.Entry.{Entry}
-use Rattle.hr_history.specs.declared.entry.Event.{Event}
 use Rattle.hr_history.specs.declared.entry.Event.TheVariants as event
-use Rattle.hr_history.specs.declared.job.Job.{Job}
-use Rattle.hr_history.specs.declared.job.Job.TheVariants as job
-use Rattle.hr_history.specs.declared.job.JobReply.{JobReply}
-use Rattle.hr_history.specs.declared.job.JobReply.TheVariants as reply
 use Rattle.hr_history.specs.declared.phase.Phase.{Phase}
 use Rattle.hr_history.specs.declared.phase.Phase.TheVariants as phase
 use Rattle.hr_history.specs.declared.reply.Reply.{Reply}
 use Rattle.hr_history.specs.declared.reply.Reply.TheVariants as told
 use Rattle.hr_history.specs.declared.cause.CauseAt.{CauseAt}
 use Rattle.hr_history.specs.History.{History}
-use Rattle.hr_history.specs.Transactions.{begun, session_of, log, asks, submits, next_submits, phase_of, next_phase, is_open, is_asked}
-use Rattle.hr_history.specs.Replicas.{out_at, next_out}
-use Rattle.hr_history.specs.Primary.{primary_of, is_some_of}
-use Rattle.hr_history.specs.Given.{Given, Found, found, given_to, given_by, next_given, is_run_of, is_primary_run}
-use Rattle.hr_history.specs.Turn.{turn_of}
-use Rattle.hr_history.specs.Replies.{ReplyState, NothingAsked, Waiting, Replied, reply_to, reply_if, reply_by, gives_to, is_waiting, is_of, cause_told}
-use Rattle.hr_history.specs.View.{View, view_of}
-use Rattle.hr_history.specs.Processed.{phase_in}
-use Rattle.hr_history.specs.Votes.{is_decidable}
-use Rattle.hr_history.specs.Jobs.{pending_index, is_stamped_by}
-use Rattle.hr_history.specs.Faithful.{is_allowed, may_go_on_with, fits_job}
+use Rattle.hr_history.specs.Transactions.{begun, session_of, log, asks, submits, next_submits, phase_of, is_open, is_asked}
+use Rattle.hr_history.specs.Replicas.{out_at}
+use Rattle.hr_history.specs.Primary.{is_some_of}
+use Rattle.hr_history.specs.Given.{Given, given_to}
+use Rattle.hr_history.specs.Replies.{ReplyState, NothingAsked, Waiting, Replied, reply_to, reply_if, is_waiting, is_of, cause_told}
 use Rattle.hr_records.specs.Numbers.{IsBorn, IsBalanced, Numbers, NumbersAt}
-use Rattle.hr_records.specs.ByRule.{IsTxn, IsRunOf, IsJobOf, Follows}
-use Rattle.hr_records.proofs.Options.{some_none, same_some}
-use Rattle.hr_records.proofs.Places.{same_or_not, if_same, if_other, numbered_born, numbered_some}
+use Rattle.hr_records.proofs.Places.{same_or_not, if_same, if_other, numbered_some}
 use Rattle.hr_records.proofs.RuleLemmas.{asked_is_open}
-use Rattle.hr_records.proofs.NumberSteps.{not_both, open_unlogged, settled_balance, given_le, answered, begins, redirected, stays_out, is_logged}
-use Rattle.hr_records.proofs.ViewWords.{txn_born, phase_seen, open_seen}
-use Rattle.hr_records.proofs.Allowed.{GoesOn, none_open, begin_allowed, submit_allowed, take_allowed, give_allowed, restart_allowed, ran_out}
+use Rattle.hr_records.proofs.NumberSteps.{not_both, open_unlogged, settled_balance, given_le, begins, stays_out, is_logged}
+use Rattle.hr_records.proofs.Allowed.{GoesOn}
 
 -- a reply to one session
 same_wait : (s q : ℕ) (x : ReplyState) → (q ≡ s → ⊥) → is_waiting (if q == s then Waiting else x) ≡ is_waiting x

@@ -1,5 +1,5 @@
 -- What one more entry makes of numbers and phases, on plain words.
-use Rattle.std.proofs.Common.{◌≡◌, ◌⊎◌, ◌↔◌, inl, inr, ℕ, zero, suc, ◌+◌, ◌<◌, ◌≤◌, Bool, true, false, ◌==◌, Option, Some, None, List, [], ◌∷◌, ◌++◌, length, refl, ap, sym, ◌∙◌, subst, arith, length-append}
+use Rattle.std.proofs.Common.{◌≡◌, ◌⊎◌, ◌↔◌, inl, inr, ℕ, ◌+◌, ◌≤◌, Bool, true, false, Option, Some, List, [], ◌∷◌, ◌++◌, length, refl, ap, sym, ◌∙◌, subst, arith, length-append}
 use Rattle.hr_base.specs.Lists.{numbered}
 use Rattle.hr_history.specs.declared.job.Job.{Job}
 use Rattle.hr_history.specs.declared.job.Job.TheVariants as job
@@ -7,8 +7,8 @@ use Rattle.hr_history.specs.declared.phase.Phase.{Phase}
 use Rattle.hr_history.specs.declared.phase.Phase.TheVariants as phase
 use Rattle.hr_history.specs.Transactions.{is_open}
 use Rattle.hr_records.specs.Numbers.{IsBorn, IsBalanced, Numbers}
-use Rattle.hr_records.proofs.Options.{some_none, same_some}
-use Rattle.hr_records.proofs.Places.{same_or_not, numbered_born, numbered_front, numbered_more, numbered_end, numbered_some}
+use Rattle.hr_records.proofs.Options.{same_some}
+use Rattle.hr_records.proofs.Places.{same_or_not, numbered_born, numbered_front, numbered_more, numbered_end}
 
 abbrev place_of : Phase → ℕ
 place_of (phase.Logged p) = p

@@ -1,12 +1,10 @@
 -- What every history keeps of each replica's part, entry by entry.
-use Rattle.std.proofs.Common.{◌≡◌, ◌⊎◌, inl, inr, ℕ, zero, suc, ◌+◌, ◌*◌, ◌<◌, ◌≤◌, Bool, true, false, cond, ◌==◌, if◌then◌else◌, Option, Some, None, Ok, Err, unwrap_or, slice_get, List, [], ◌∷◌, ◌++◌, length, map, refl, ap, sym, ◌∙◌, subst, arith, append-nil}
+use Rattle.std.proofs.Common.{◌≡◌, ◌⊎◌, inl, inr, ℕ, suc, ◌+◌, ◌*◌, ◌<◌, Bool, true, false, ◌==◌, if◌then◌else◌, Option, Some, None, unwrap_or, slice_get, [], ◌∷◌, ◌++◌, length, refl, ap, sym, ◌∙◌, subst, arith, append-nil}
 use Rattle.std.proofs.lemmas.Bool.{eqb-true}
 use Rattle.hr_base.specs.Lists.{numbered}
 use Rattle.hr_rel.specs.declared.stmt.Stmt.{Stmt}
-use Rattle.hr_engine.specs.declared.reply.RunReply.{RunReply}
 use Rattle.hr_engine.specs.declared.reply.EndReply.{EndReply}
-use Rattle.hr_engine.specs.declared.reply.EndReply.TheVariants as end
-use Rattle.hr_engine.specs.Journal.{Call, Ran, Committed, RolledBack, Restarted, Journal}
+use Rattle.hr_engine.specs.Journal.{Journal}
 use Rattle.hr_engine.specs.Attempts.{attempt}
 use Rattle.hr_engine.specs.Base.{settled, count}
 use Rattle.hr_history.specs.declared.entry.Event.TheVariants as event
@@ -14,24 +12,19 @@ use Rattle.hr_history.specs.declared.job.Job.{Job}
 use Rattle.hr_history.specs.declared.job.Job.TheVariants as job
 use Rattle.hr_history.specs.declared.job.JobReply.{JobReply}
 use Rattle.hr_history.specs.declared.job.JobReply.TheVariants as reply
-use Rattle.hr_history.specs.declared.phase.Phase.TheVariants as phase
 use Rattle.hr_history.specs.History.{History}
 use Rattle.hr_history.specs.Transactions.{begun, log, submits, phase_of, is_open}
-use Rattle.hr_history.specs.Primary.{primary_of}
 use Rattle.hr_history.specs.Replicas.{out_at, stmt_at, call_of, call_if, restart_of, restart_if, next_journal, journal_of}
-use Rattle.hr_history.specs.Given.{given_to}
 use Rattle.hr_history.specs.View.{view_of}
 use Rattle.hr_history.specs.Faithful.{fits_job}
 use Rattle.hr_records.specs.ByRule.{IsJobOf}
-use Rattle.hr_records.specs.Numbers.{NumbersAt}
 use Rattle.hr_records.specs.AtReplica.{Begins, AtReplica, AtReplicaAt}
-use Rattle.hr_records.specs.Leads.{LeadsAt}
 use Rattle.hr_records.specs.Kept.{Kept}
-use Rattle.hr_records.proofs.Places.{same_or_not, if_same, if_other}
+use Rattle.hr_records.proofs.Places.{if_other}
 use Rattle.hr_records.proofs.NumberSteps.{open_unlogged}
 use Rattle.hr_records.proofs.NumberLemmas.{submits_at_begin}
 use Rattle.hr_records.proofs.Allowed.{GoesOn, ran_out}
-use Rattle.hr_records.proofs.JobWords.{RunTaken, CommitTaken, run_taken, commit_taken, rollback_taken, lost_taken}
+use Rattle.hr_records.proofs.JobWords.{RunTaken, run_taken, commit_taken, rollback_taken, lost_taken}
 use Rattle.hr_records.proofs.ReplicaSteps.{grown, decides, takes, told_run, told_commit, told_rollback, still_lost, is_restarted}
 
 -- a commit or a rollback is replied to

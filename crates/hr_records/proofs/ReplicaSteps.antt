@@ -1,8 +1,8 @@
 -- What one more entry makes of a replica's part, on plain words.
-use Rattle.std.proofs.Common.{◌≡◌, ◌⊎◌, inl, inr, ℕ, zero, suc, ◌+◌, ◌<◌, ◌≤◌, Bool, true, false, cond, ◌==◌, if◌then◌else◌, Option, Some, None, Ok, Err, unwrap_or, option_map, slice_get, List, [], ◌∷◌, ◌++◌, length, map, refl, ap, sym, ◌∙◌, subst, arith, length-append}
+use Rattle.std.proofs.Common.{◌≡◌, inl, inr, ℕ, suc, ◌+◌, ◌≤◌, Bool, true, false, ◌==◌, if◌then◌else◌, Option, Some, None, Ok, Err, unwrap_or, option_map, slice_get, List, [], ◌∷◌, ◌++◌, length, map, refl, ap, sym, ◌∙◌, subst, arith}
 use Rattle.std.proofs.lemmas.Option.{slice_get-map}
 use Rattle.std.proofs.lemmas.List.{map-append, length-map}
-use Rattle.hr_base.specs.Lists.{when, numbered}
+use Rattle.hr_base.specs.Lists.{numbered}
 use Rattle.hr_base.specs.Counters.{shown}
 use Rattle.hr_rel.specs.declared.answer.Answer.{Answer}
 use Rattle.hr_rel.specs.declared.stmt.Stmt.{Stmt}
@@ -11,7 +11,7 @@ use Rattle.hr_engine.specs.declared.reply.RunReply.{RunReply}
 use Rattle.hr_engine.specs.declared.reply.RunReply.TheVariants as run
 use Rattle.hr_engine.specs.declared.reply.EndReply.{EndReply}
 use Rattle.hr_engine.specs.declared.reply.EndReply.TheVariants as end
-use Rattle.hr_engine.specs.Journal.{Call, Ran, Committed, RolledBack, Restarted, Journal}
+use Rattle.hr_engine.specs.Journal.{Ran, Committed, RolledBack, Restarted, Journal}
 use Rattle.hr_engine.specs.Attempts.{RanStmt, attempt, statements}
 use Rattle.hr_engine.specs.Base.{settled, count, with_doubt}
 use Rattle.hr_engine.proofs.BaseLaws.{no_doubt}

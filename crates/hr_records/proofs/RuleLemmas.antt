@@ -1,7 +1,7 @@
 -- What follows in a turn stands there by its rule.
-use Rattle.std.proofs.Common.{◌≡◌, ◌⊎◌, inl, inr, ℕ, zero, suc, ◌+◌, ◌*◌, ◌<◌, ◌≤◌, Bool, true, false, not, ◌&&◌, ◌==◌, Option, Some, None, is_none, is_some, option_map, option_and_then, find, unwrap_or, filter, slice_get, List, [], ◌∷◌, length, map, refl, ap, sym, ◌∙◌, subst, arith, IsTrue}
-use Rattle.std.proofs.lemmas.Bool.{and_parts, and_from, not-true}
-use Rattle.hr_base.specs.Lists.{has, last_of, first_some, when, one_to, numbered}
+use Rattle.std.proofs.Common.{◌≡◌, inl, inr, ℕ, ◌+◌, ◌*◌, Bool, true, false, not, ◌&&◌, Option, Some, None, is_none, option_and_then, find, filter, [], ◌∷◌, length, refl, ap, arith, IsTrue}
+use Rattle.std.proofs.lemmas.Bool.{and_parts}
+use Rattle.hr_base.specs.Lists.{has, last_of, when}
 use Rattle.hr_base.proofs.ListLaws.{has-filter}
 use Rattle.hr_engine.specs.declared.reply.RunReply.{RunReply}
 use Rattle.hr_engine.specs.declared.reply.RunReply.TheVariants as run
@@ -10,17 +10,15 @@ use Rattle.hr_history.specs.declared.entry.Event.{Event}
 use Rattle.hr_history.specs.declared.entry.Event.TheVariants as event
 use Rattle.hr_history.specs.declared.cause.CauseAt.{CauseAt}
 use Rattle.hr_history.specs.declared.cause.CauseAt.TheVariants as cause
-use Rattle.hr_history.specs.declared.evidence.Evidence.{Evidence}
-use Rattle.hr_history.specs.declared.evidence.Evidence.TheVariants as evidence
 use Rattle.hr_history.specs.declared.phase.Phase.{Phase}
 use Rattle.hr_history.specs.declared.phase.Phase.TheVariants as phase
 use Rattle.hr_history.specs.declared.phase.Fresh.{Fresh}
 use Rattle.hr_history.specs.History.{History, is_call}
 use Rattle.hr_history.specs.ReplicaNumbers.{replica_numbers}
 use Rattle.hr_history.specs.Transactions.{is_open, is_asked}
-use Rattle.hr_history.specs.Turn.{Turn, Gone, Contradiction, turn_of}
-use Rattle.hr_history.specs.View.{View, TxnState, view_of}
-use Rattle.hr_history.specs.Processed.{txn_in, phase_in, replica_in, unknown_txn, live_in, is_primary, candidate_in, is_caught_up}
+use Rattle.hr_history.specs.Turn.{Turn, Contradiction, turn_of}
+use Rattle.hr_history.specs.View.{View, view_of}
+use Rattle.hr_history.specs.Processed.{phase_in, replica_in, live_in, is_primary, candidate_in, is_caught_up}
 use Rattle.hr_history.specs.Votes.{is_decidable, is_contradicted, contradicted_by, difference_at}
 use Rattle.hr_history.specs.Ranks.{ranks_before}
 use Rattle.hr_history.specs.Jobs.{txn_numbers}
@@ -28,8 +26,8 @@ use Rattle.hr_history.specs.Preemption.{preempted_next, is_to_give_way}
 use Rattle.hr_history.specs.Evidence.{evidence_of}
 use Rattle.hr_history.specs.Rules.{convict_with, owed_conviction, conviction_of, convict, refuse_for, primary_gone, cause_by, refuse_after, primary_reply, decide, refuse_as_differ, differ, answer_place, new_primary, preemption_at, preempt, due_in, due}
 use Rattle.hr_history.specs.Faithful.{same_event, is_allowed, is_turn_of, is_next, is_begun, Begun}
-use Rattle.hr_records.specs.ByRule.{IsTxn, IsReplica, IsReplyOfPrimary, HasCause, HasEvidence, IsElected, GivesWay, Follows}
-use Rattle.hr_records.proofs.Options.{On, some_none, same_some, on_some, when_on, first_on, then_on, map_on, first_of_on, find_has, first_by_has, has_range, has_round}
+use Rattle.hr_records.specs.ByRule.{IsTxn, IsReplica, HasCause, Follows}
+use Rattle.hr_records.proofs.Options.{On, on_some, when_on, first_on, then_on, map_on, first_of_on, find_has, first_by_has, has_range, has_round}
 use Rattle.hr_records.proofs.SameEvents.{event_exact}
 
 pub txn_has : (v : View) (t : ℕ) → has (txn_numbers v) t ≡ true → IsTxn v t

@@ -1,5 +1,5 @@
 -- The tests for the same event and the same job are exact.
-use Rattle.std.proofs.Common.{◌≡◌, ℕ, Bool, true, false, ◌==◌, ◌&&◌, Option, Some, None, refl, ap, sym, ◌∙◌}
+use Rattle.std.proofs.Common.{◌≡◌, ℕ, true, ◌==◌, ◌&&◌, Option, Some, None, refl, ap, sym}
 use Rattle.std.proofs.lemmas.Bool.{and_parts, eqb-true}
 use Rattle.hr_history.specs.declared.entry.Event.{Event}
 use Rattle.hr_history.specs.declared.entry.Event.TheVariants as event

@@ -1,5 +1,5 @@
 -- The test for the same list of answers is exact.
-use Rattle.std.proofs.Common.{◌≡◌, true, ◌&&◌, List, [], ◌∷◌, refl}
+use Rattle.std.proofs.Common.{◌≡◌, true, List, [], ◌∷◌, refl}
 use Rattle.std.proofs.lemmas.Bool.{and_parts, and_from}
 use Rattle.hr_rel.specs.declared.answer.Answer.{Answer}
 use Rattle.hr_history.specs.SameAnswers.{same_answer, same_answers}

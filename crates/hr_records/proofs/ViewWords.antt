@@ -1,24 +1,20 @@
 -- What a view tells of a transaction and a replica is what its history tells.
-use Rattle.std.proofs.Common.{◌≡◌, ◌⊎◌, inl, inr, ℕ, zero, suc, ◌+◌, ◌*◌, ◌<◌, ◌≤◌, Bool, true, false, not, ◌&&◌, ◌==◌, Option, Some, None, unwrap_or, slice_get, List, [], ◌∷◌, length, map, refl, ap, sym, ◌∙◌, subst, arith, length-append}
+use Rattle.std.proofs.Common.{◌≡◌, ℕ, ◌+◌, ◌*◌, ◌<◌, true, Option, Some, None, unwrap_or, length, refl, ap, sym, ◌∙◌, arith}
 use Rattle.std.proofs.lemmas.List.FromFn.{length-map-range_with_len}
-use Rattle.std.proofs.lemmas.Bool.{and_parts, eqb-true, leb-true}
-use Rattle.hr_rel.specs.declared.answer.Answer.{Answer}
 use Rattle.hr_base.specs.Lists.{numbered}
 use Rattle.hr_engine.specs.Attempts.{attempt, answers}
 use Rattle.hr_engine.specs.Base.{count, settled}
-use Rattle.hr_history.specs.declared.phase.Phase.{Phase}
-use Rattle.hr_history.specs.declared.phase.Phase.TheVariants as phase
 use Rattle.hr_history.specs.History.{History}
 use Rattle.hr_history.specs.Transactions.{begun, submits, phase_of, is_open}
 use Rattle.hr_history.specs.Replicas.{journal_of}
-use Rattle.hr_history.specs.Given.{Given, given_to}
+use Rattle.hr_history.specs.Given.{given_to}
 use Rattle.hr_history.specs.Attempts.{is_preempted}
 use Rattle.hr_history.specs.View.{View, TxnState, Progress, Attempt, txn_state, view_of}
 use Rattle.hr_history.specs.Processed.{txn_in, phase_in, replica_in, attempt_in, answers_in, unknown_txn}
 use Rattle.hr_history.proofs.StepLemmas.{replica_lookup, txn_lookup}
 use Rattle.hr_history.proofs.AttemptSteps.{attempt_lookup}
 use Rattle.hr_records.specs.Numbers.{IsBorn}
-use Rattle.hr_records.specs.ByRule.{IsTxn, IsReplica}
+use Rattle.hr_records.specs.ByRule.{IsTxn}
 use Rattle.hr_records.proofs.Places.{numbered_born}
 
 pub how_many : (f : ℕ) (h : History) → length (view_of f h).txns ≡ length (begun h)

@@ -1,5 +1,5 @@
 -- What every history keeps of the primary's part: how many answers were given, and how many each attempt has.
-use Rattle.std.specs.Prelude.{◌≡◌, ◌⊎◌, ℕ, ◌+◌, ◌≤◌, Bool, true, false, Option, Some, None, is_some, List, length}
+use Rattle.std.specs.Prelude.{◌≡◌, ◌⊎◌, ℕ, ◌≤◌, Bool, true, false, Option, Some, None, is_some, length}
 use Rattle.hr_engine.specs.Attempts.{attempt}
 use Rattle.hr_engine.specs.Base.{settled}
 use Rattle.hr_history.specs.declared.job.Job.{Job}
