@@ -1,15 +1,14 @@
 -- Decisions are exact.
-use Rattle.std.proofs.Common.{◌≡◌, ◌⊎◌, inl, inr, ℕ, zero, suc, ◌+◌, ◌*◌, ◌<◌, ◌≤◌, Bool, true, false, not, cond, ◌&&◌, ◌==◌, nat_le, Option, Some, None, is_none, is_some, option_map, option_and_then, unwrap_or, find, filter, count_by, List, [], ◌∷◌, length, refl, ap, sym, ◌∙◌, subst, arith, IsTrue}
-use Rattle.std.proofs.lemmas.Bool.{and_parts, and_from, or_cases, or_left, or_right, eqb-true, leb-true}
-use Rattle.hr_base.specs.Lists.{has, first_some}
-use Rattle.hr_rel.specs.declared.answer.Answer.{Answer}
+use Rattle.std.proofs.Common.{◌≡◌, ◌⊎◌, inl, inr, ℕ, ◌+◌, Bool, true, false, not, cond, ◌&&◌, ◌==◌, nat_le, Option, Some, None, is_none, is_some, option_map, option_and_then, filter, count_by, List, [], ◌∷◌, length, refl, ap, sym, ◌∙◌, subst, arith}
+use Rattle.std.proofs.lemmas.Bool.{and_parts, or_cases, or_left, or_right, eqb-true, leb-true}
+use Rattle.hr_base.specs.Lists.{has}
 use Rattle.hr_history.specs.declared.entry.Event.{Event}
 use Rattle.hr_history.specs.declared.entry.Event.TheVariants as event
 use Rattle.hr_history.specs.declared.cause.CauseAt.TheVariants as cause
 use Rattle.hr_history.specs.History.{History}
 use Rattle.hr_history.specs.ReplicaNumbers.{replica_numbers}
-use Rattle.hr_history.specs.SameAnswers.{same_answer, same_answers}
-use Rattle.hr_history.specs.Transactions.{is_asked, is_open}
+use Rattle.hr_history.specs.SameAnswers.{same_answers}
+use Rattle.hr_history.specs.Transactions.{is_asked}
 use Rattle.hr_history.specs.Turn.{Turn, turn_of}
 use Rattle.hr_history.specs.View.{View, view_of}
 use Rattle.hr_history.specs.Processed.{phase_in, answers_in, given_in}
@@ -18,7 +17,6 @@ use Rattle.hr_history.specs.Ranks.{ranks_before, first_in_rank}
 use Rattle.hr_history.specs.Jobs.{txn_numbers}
 use Rattle.hr_history.specs.Rules.{owed_conviction, convict, primary_gone, primary_reply, decide, refuse_as_differ, differ, answer_place, due_in, due}
 use Rattle.hr_history.specs.Faithful.{Faithful, is_begun}
-use Rattle.hr_history.proofs.SameAnswersLemmas.{same_answer_decides}
 use Rattle.hr_records.proofs.Options.{some_none, first_none, none_mapped, first_by_has, first_by_none, in_range}
 use Rattle.hr_records.proofs.NumberSteps.{not_both}
 use Rattle.hr_records.proofs.SameLists.{same_lists, themselves}

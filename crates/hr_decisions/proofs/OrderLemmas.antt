@@ -1,30 +1,25 @@
 -- The order of decisions.
-use Rattle.std.proofs.Common.{◌≡◌, ◌⊎◌, inl, inr, ℕ, zero, suc, ◌+◌, ◌*◌, ◌<◌, ◌≤◌, Bool, true, false, not, if◌then◌else◌, ◌==◌, nat_le, Option, Some, None, List, [], ◌∷◌, ◌++◌, length, refl, ap, sym, ◌∙◌, subst, arith}
+use Rattle.std.proofs.Common.{◌≡◌, ◌⊎◌, inl, inr, ℕ, zero, suc, ◌+◌, ◌<◌, ◌≤◌, Bool, true, false, not, nat_le, Some, List, [], ◌∷◌, ◌++◌, length, refl, ap, sym, ◌∙◌, arith}
 use Rattle.std.proofs.lemmas.List.{append-nil}
 use Rattle.std.proofs.lemmas.Bool.{leb-true, leb-false}
 use Rattle.hr_base.specs.Lists.{numbered}
 use Rattle.hr_history.specs.declared.entry.Entry.{Entry}
 use Rattle.hr_history.specs.declared.entry.Event.{Event}
 use Rattle.hr_history.specs.declared.entry.Event.TheVariants as event
-use Rattle.hr_history.specs.declared.phase.Phase.{Phase}
 use Rattle.hr_history.specs.declared.phase.Phase.TheVariants as phase
 use Rattle.hr_history.specs.History.{History}
 use Rattle.hr_history.specs.Transactions.{begun, session_of, log, phase_of, is_open}
-use Rattle.hr_history.specs.Turn.{turn_of}
-use Rattle.hr_history.specs.View.{view_of}
 use Rattle.hr_history.specs.Faithful.{Begun, has_open}
 use Rattle.hr_history.proofs.StepLemmas.{call_allowed}
 use Rattle.hr_records.specs.AtReplica.{Begins}
-use Rattle.hr_records.specs.Numbers.{IsBorn, NumbersAt}
+use Rattle.hr_records.specs.Numbers.{NumbersAt}
 use Rattle.hr_records.specs.Kept.{Kept}
 use Rattle.hr_records.proofs.Options.{some_none, same_some}
-use Rattle.hr_records.proofs.Places.{same_or_not, if_same, if_other, numbered_born, numbered_front, numbered_more, numbered_some}
-use Rattle.hr_records.proofs.NumberSteps.{not_both, open_unlogged}
-use Rattle.hr_records.proofs.NumberLemmas.{phase_at_begin}
-use Rattle.hr_records.proofs.Beginnings.{begins_more, begins_chain}
-use Rattle.hr_records.proofs.Allowed.{begin_allowed, may_go_on, none_open}
-use Rattle.hr_records.proofs.RuleLemmas.{begun_before, by_rule, asked_is_open}
-use Rattle.hr_records.proofs.ViewWords.{txn_born, open_seen}
+use Rattle.hr_records.proofs.Places.{numbered_born, numbered_front, numbered_more, numbered_some}
+use Rattle.hr_records.proofs.NumberSteps.{open_unlogged}
+use Rattle.hr_records.proofs.Beginnings.{begins_chain}
+use Rattle.hr_records.proofs.Allowed.{begin_allowed, none_open}
+use Rattle.hr_records.proofs.RuleLemmas.{begun_before}
 use Rattle.hr_records.proofs.KeptLemmas.{kept}
 use Rattle.hr_records.proofs.Closed.{phase_stands}
 use Rattle.hr_decisions.specs.Order.{WasDecided, HasNotBegun, IsLater, AreOf}

@@ -1,9 +1,8 @@
 -- Lists in which each stands at one place, and lists side by side.
-use Rattle.std.proofs.Common.{◌≡◌, ◌⊎◌, inl, inr, ℕ, zero, suc, ◌+◌, ◌<◌, ◌≤◌, Bool, true, false, not, ◌==◌, ◌&&◌, ◌||◌, Some, slice_get, List, [], ◌∷◌, ◌++◌, length, map, refl, ap, sym, ◌∙◌, arith, IsTrue}
+use Rattle.std.proofs.Common.{◌≡◌, ◌⊎◌, inl, inr, ℕ, suc, true, not, ◌==◌, Some, slice_get, List, [], ◌∷◌, ◌++◌, refl, ap, arith}
 use Rattle.std.specs.List.{AllZip}
 use Rattle.std.proofs.lemmas.Bool.{and_parts, and_from, or_cases, eqb-true, false_from_ne_true}
 use Rattle.hr_base.specs.Lists.{has, is_distinct}
-use Rattle.hr_records.proofs.Options.{some_none}
 
 -- a member stands at some place
 pub has_place : (xs : List ℕ) (t : ℕ) → has xs t ≡ true → (i : ℕ) × (slice_get xs i ≡ Some t)

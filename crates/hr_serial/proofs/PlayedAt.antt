@@ -1,9 +1,8 @@
 -- A correct replica that has processed the whole log answers a whole transaction as the database after the log does.
-use Rattle.std.proofs.Common.{◌≡◌, ◌⊎◌, inl, inr, ℕ, zero, suc, ◌+◌, ◌*◌, ◌<◌, ◌≤◌, Bool, true, false, Some, slice_get, List, [], ◌∷◌, ◌++◌, length, map, refl, ap, sym, ◌∙◌, subst, arith, append_assoc}
+use Rattle.std.proofs.Common.{◌≡◌, ◌⊎◌, inl, inr, ℕ, suc, ◌+◌, ◌*◌, ◌<◌, true, Some, slice_get, List, [], ◌∷◌, ◌++◌, length, map, refl, ap, sym, ◌∙◌, subst, arith, append_assoc}
 use Rattle.std.specs.List.{AllZip}
-use Rattle.std.proofs.lemmas.List.{map-append, length-append, length-map}
+use Rattle.std.proofs.lemmas.List.{map-append, length-map}
 use Rattle.hr_base.specs.Lists.{is_distinct}
-use Rattle.hr_rel.specs.declared.answer.Answer.{Answer}
 use Rattle.hr_rel.specs.declared.stmt.Stmt.{Stmt}
 use Rattle.hr_rel.specs.Database.{Database}
 use Rattle.hr_meaning.specs.Serial.{play, database_after, serial_answers}
@@ -14,7 +13,6 @@ use Rattle.hr_engine.specs.Base.{settled, base, count}
 use Rattle.hr_engine.specs.Rigorous.{Rigorous}
 use Rattle.hr_engine.proofs.AnyList.{any_list}
 use Rattle.hr_engine.proofs.SerialLaws.{database_after-append}
-use Rattle.hr_history.specs.declared.phase.Phase.TheVariants as phase
 use Rattle.hr_history.specs.History.{History}
 use Rattle.hr_history.specs.Transactions.{log, submits, phase_of, is_open}
 use Rattle.hr_history.specs.Replicas.{journal_of}
@@ -22,7 +20,6 @@ use Rattle.hr_history.specs.View.{view_of}
 use Rattle.hr_history.specs.Processed.{processed_in}
 use Rattle.hr_records.specs.AtReplica.{Begins}
 use Rattle.hr_records.specs.Kept.{Kept}
-use Rattle.hr_records.proofs.Options.{some_none, same_some}
 use Rattle.hr_records.proofs.Places.{got_more}
 use Rattle.hr_records.proofs.NumberSteps.{open_unlogged, same_place}
 use Rattle.hr_serial.specs.Prefix.{log_statements}

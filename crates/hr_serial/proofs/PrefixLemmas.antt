@@ -1,5 +1,5 @@
 -- Each replica is at a prefix of the log.
-use Rattle.std.proofs.Common.{◌≡◌, ◌⊎◌, inl, inr, ℕ, zero, suc, ◌+◌, ◌<◌, ◌≤◌, Option, Some, None, Contains, option_to_list, option_map, length-append, List, [], ◌∷◌, ◌++◌, length, map, take, refl, ap, sym, ◌∙◌, arith}
+use Rattle.std.proofs.Common.{◌≡◌, ◌⊎◌, inl, inr, ℕ, zero, suc, ◌+◌, Option, Some, None, Contains, option_to_list, option_map, length-append, List, [], ◌∷◌, ◌++◌, take, refl, ap, sym, ◌∙◌, arith}
 use Rattle.std.proofs.lemmas.List.{length-map}
 use Rattle.hr_rel.specs.Database.{Database}
 use Rattle.hr_meaning.specs.Serial.{play, database_after, database_at}

@@ -1,8 +1,7 @@
 -- Where the whole log is processed at a replica, each of it is committed there or whole.
-use Rattle.std.proofs.Common.{◌≡◌, ◌⊎◌, inl, inr, ℕ, zero, suc, ◌+◌, ◌*◌, ◌<◌, ◌≤◌, Bool, true, false, cond, ◌==◌, ◌||◌, nat_le, Some, take, take_while, slice_get, List, [], ◌∷◌, length, map, refl, ap, sym, ◌∙◌, subst, arith}
+use Rattle.std.proofs.Common.{◌≡◌, inl, inr, ℕ, zero, suc, ◌+◌, ◌*◌, ◌<◌, ◌≤◌, Bool, true, false, cond, Some, take, slice_get, List, [], ◌∷◌, length, refl, ap, sym, ◌∙◌, arith}
 use Rattle.std.specs.List.{prefix_len}
 use Rattle.std.proofs.lemmas.Bool.{or_cases, eqb-true, leb-true}
-use Rattle.std.proofs.lemmas.List.{length-map}
 use Rattle.hr_rel.specs.declared.answer.Answer.{Answer}
 use Rattle.hr_engine.specs.Attempts.{attempt, statements}
 use Rattle.hr_engine.specs.Base.{count}
@@ -17,7 +16,7 @@ use Rattle.hr_records.specs.Numbers.{IsBorn}
 use Rattle.hr_records.specs.Kept.{Kept}
 use Rattle.hr_records.proofs.Options.{some_none, same_some}
 use Rattle.hr_records.proofs.Born.{born_or_not}
-use Rattle.hr_records.proofs.NumberSteps.{open_unlogged, not_both}
+use Rattle.hr_records.proofs.NumberSteps.{open_unlogged}
 use Rattle.hr_records.proofs.Beginnings.{begins_whole}
 use Rattle.hr_records.proofs.JobWords.{many}
 use Rattle.hr_records.proofs.ReplicaSteps.{statements_many}

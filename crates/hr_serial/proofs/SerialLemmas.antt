@@ -1,11 +1,8 @@
 -- The accepted answers are serial, decision by decision.
-use Rattle.std.proofs.Common.{◌≡◌, ◌⊎◌, inl, inr, ℕ, zero, suc, ◌+◌, ◌*◌, ◌<◌, ◌≤◌, Bool, true, false, ◌&&◌, ◌==◌, nat_le, Option, Some, None, count_by, slice_get, List, [], ◌∷◌, ◌++◌, length, map, refl, ap, sym, ◌∙◌, subst, arith, IsTrue}
+use Rattle.std.proofs.Common.{◌≡◌, ℕ, suc, ◌+◌, ◌≤◌, true, false, ◌&&◌, ◌==◌, nat_le, Option, Some, None, count_by, slice_get, [], ◌∷◌, ◌++◌, length, map, refl, ap, sym, ◌∙◌, subst, IsTrue}
 use Rattle.std.specs.List.{AllZip}
 use Rattle.std.proofs.lemmas.Bool.{and_parts, eqb-true, leb-true}
 use Rattle.std.proofs.lemmas.List.{map-append}
-use Rattle.hr_base.specs.Lists.{has}
-use Rattle.hr_rel.specs.declared.answer.Answer.{Answer}
-use Rattle.hr_rel.specs.declared.stmt.Stmt.{Stmt}
 use Rattle.hr_rel.specs.Database.{Database}
 use Rattle.hr_meaning.specs.Serial.{play, database_after, serial_answers}
 use Rattle.hr_meaning.specs.SameAnswer.{SameAnswer}
@@ -15,18 +12,16 @@ use Rattle.hr_engine.specs.Rigorous.{Rigorous}
 use Rattle.hr_history.specs.declared.entry.Entry.{Entry}
 use Rattle.hr_history.specs.declared.entry.Event.{Event}
 use Rattle.hr_history.specs.declared.entry.Event.TheVariants as event
-use Rattle.hr_history.specs.declared.phase.Phase.TheVariants as phase
 use Rattle.hr_history.specs.History.{History}
 use Rattle.hr_history.specs.ReplicaNumbers.{replica_numbers}
-use Rattle.hr_history.specs.Transactions.{begun, log, submits, phase_of, is_open, is_asked}
+use Rattle.hr_history.specs.Transactions.{log, submits, phase_of, is_open, is_asked}
 use Rattle.hr_history.specs.Replicas.{journal_of, next_journal, call_at}
-use Rattle.hr_history.specs.Given.{Given, given_to, answers_given}
-use Rattle.hr_history.specs.SameAnswers.{same_answer, same_answers}
+use Rattle.hr_history.specs.Given.{given_to, answers_given}
+use Rattle.hr_history.specs.SameAnswers.{same_answers}
 use Rattle.hr_history.specs.View.{view_of}
 use Rattle.hr_history.specs.Processed.{phase_in, answers_in, given_in, live_in, is_whole, processed_in}
 use Rattle.hr_history.specs.Votes.{is_ready, agrees, is_decidable}
-use Rattle.hr_history.specs.Faithful.{Begun, Correct}
-use Rattle.hr_history.proofs.SameAnswersLemmas.{same_answer_decides}
+use Rattle.hr_history.specs.Faithful.{Begun}
 use Rattle.hr_records.specs.Kept.{Kept}
 use Rattle.hr_records.proofs.SameLists.{same_lists}
 use Rattle.hr_records.proofs.Counts.{one_outside}

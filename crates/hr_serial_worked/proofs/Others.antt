@@ -1,5 +1,5 @@
 -- Who isn't among the first is correct: it has done nothing.
-use Rattle.std.proofs.Common.{◌≡◌, ℕ, zero, suc, ◌+◌, ◌*◌, ◌<◌, ◌≤◌, true, false, List, [], ◌∷◌, length, refl, arith}
+use Rattle.std.proofs.Common.{◌≡◌, ℕ, zero, suc, ◌<◌, true, false, [], ◌∷◌, arith}
 use Rattle.hr_base.specs.Lists.{has}
 use Rattle.hr_history.specs.History.{history_of}
 use Rattle.hr_history.specs.Faithful.{Correct}

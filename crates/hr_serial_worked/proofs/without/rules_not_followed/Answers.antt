@@ -1,4 +1,4 @@
-use Rattle.std.proofs.Common.{◌≡◌, false, true, refl}
+use Rattle.std.proofs.Common.{refl}
 use Rattle.hr_serial_worked.proofs.Others.{differ, undecided, by_one}
 use Rattle.hr_serial_worked.proofs.without.rules_not_followed.Goals as goal
 

@@ -1,7 +1,4 @@
-use Rattle.std.proofs.Common.{◌≡◌, ℕ, suc, true, false, refl}
-use Rattle.hr_history.specs.History.{history_of}
-use Rattle.hr_serial.specs.Serial.{LiarsAreAtMost, AtEachDecide, AreSerial}
-use Rattle.hr_serial_worked.specs.WrongAnswers.{empty_table, agreed_by, AcceptsWrong}
+use Rattle.std.proofs.Common.{refl}
 use Rattle.hr_serial_worked.proofs.Others.{differ, undecided, of_one, of_three, of_five}
 use Rattle.hr_serial_worked.proofs.without.too_many_liars.Goals as goal
 
