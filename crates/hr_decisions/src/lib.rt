@@ -1,0 +1,6 @@
+//! When transactions are decided, and in which order.
+//!
+//! Each law is the contract of a function that does nothing. None has a premise on how many replicas lie.
+#![tactic(auto)]
+
+pub mod laws;

@@ -1,0 +1,5 @@
+pub mod PrefixLemmas
+pub mod Distinct
+pub mod Processed
+pub mod PlayedAt
+pub mod SerialLemmas
