@@ -9,7 +9,7 @@ use Rattle.hr_history.specs.declared.job.Job.TheVariants as job
 use Rattle.hr_history.specs.declared.phase.Phase.{Phase}
 use Rattle.hr_history.specs.declared.phase.Phase.TheVariants as phase
 use Rattle.hr_history.specs.History.{History}
-use Rattle.hr_history.specs.Transactions.{begun, log, submits, phase_of, is_open, is_ended}
+use Rattle.hr_history.specs.Transactions.{begun, log, submits, phase_of, is_open, is_ended, is_logged}
 use Rattle.hr_history.specs.Primary.{primary_of, is_some_of}
 use Rattle.hr_history.specs.Replicas.{journal_of}
 use Rattle.hr_history.specs.Given.{Given, given_to}
@@ -18,7 +18,6 @@ use Rattle.hr_history.specs.SameAnswers.{same_answers}
 use Rattle.hr_history.specs.View.{view_of}
 use Rattle.hr_history.specs.Processed.{txn_in, phase_in, replica_in, attempt_in, answers_in, given_in, is_whole, is_committed, processed_in}
 use Rattle.hr_history.specs.Jobs.{pending_index, may_go_on, is_stamped_by}
-use Rattle.hr_history.specs.Transactions.{is_logged}
 use Rattle.hr_records.specs.Numbers.{IsBorn, NumbersAt}
 use Rattle.hr_records.specs.ByRule.{IsJobOf}
 use Rattle.hr_records.proofs.Places.{got_within, numbered_some}
