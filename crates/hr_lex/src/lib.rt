@@ -15,5 +15,3 @@ mod token;
 pub use reading::{Reading, read, tokens};
 pub use token::{Keyword, LexError, Token, TokenKind};
 
-#[cfg(test)]
-mod tests;

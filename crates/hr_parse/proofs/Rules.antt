@@ -7,7 +7,7 @@ use Rattle.hr_parse.specs.declared.word.Word.{Word}
 use Rattle.hr_parse.specs.declared.word.Word.TheVariants as w
 use Rattle.hr_parse.specs.declared.word.Lexeme.{Lexeme}
 use Rattle.hr_parse.specs.Words.{is_mark, mark, compare}
-use Rattle.hr_parse.specs.Reading.{Outcome, Reader, and_then, ◌>>=◌, pure, refuse, sees, expect, ahead_at, sees_name, at_name, comparison, sees_compare, at_compare}
+use Rattle.hr_parse.specs.Readers.{Outcome, Reader, and_then, ◌>>=◌, pure, refuse, sees, expect, ahead_at, sees_name, at_name, comparison, sees_compare, at_compare}
 use Rattle.hr_parse.proofs.Marks.{mark_self, is_the_mark}
 
 -- what follows doesn't go on with such a word

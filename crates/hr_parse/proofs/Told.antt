@@ -6,9 +6,9 @@ use Rattle.hr_lex.specs.declared.token.LexError.{LexError}
 use Rattle.hr_lex.specs.Tokens.{read_of}
 use Rattle.hr_parse.specs.declared.ast.Ast.{Ast}
 use Rattle.hr_parse.specs.declared.word.Lexeme.{Lexeme}
-use Rattle.hr_parse.specs.declared.texts.SyntaxError.{SyntaxError}
-use Rattle.hr_parse.specs.declared.texts.SyntaxError.TheVariants as syntax
-use Rattle.hr_parse.specs.declared.texts.ParseError.TheVariants as e
+use Rattle.hr_parse.specs.declared.parsing.SyntaxError.{SyntaxError}
+use Rattle.hr_parse.specs.declared.parsing.SyntaxError.TheVariants as syntax
+use Rattle.hr_parse.specs.declared.parsing.ParseError.TheVariants as e
 use Rattle.hr_parse.specs.Grammar.{IsStatement}
 use Rattle.hr_parse.specs.Parse.{Begins, Refused, IsTextOf, TextRefused, words, error, told}
 

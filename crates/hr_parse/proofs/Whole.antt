@@ -3,11 +3,12 @@ use Rattle.std.proofs.Common.{◌≡◌, ◌≤◌, inl, inr, ℕ, ◌<◌, get_
 use Rattle.std.proofs.lemmas.List.{append-nil, length-append}
 use Rattle.hr_parse.specs.declared.ast.Ast.{Ast}
 use Rattle.hr_parse.specs.declared.word.Mark.TheVariants as m
+use Rattle.hr_parse.specs.declared.word.Sign.TheVariants as sign_of
 use Rattle.hr_parse.specs.declared.word.Lexeme.{Lexeme}
-use Rattle.hr_parse.specs.declared.words.Stop.{Stop}
-use Rattle.hr_parse.specs.declared.words.Stop.TheVariants.{Unexpected}
+use Rattle.hr_parse.specs.declared.parser.Stop.{Stop}
+use Rattle.hr_parse.specs.declared.parser.Stop.TheVariants.{Unexpected}
 use Rattle.hr_parse.specs.Words.{mark, is_mark, same_mark}
-use Rattle.hr_parse.specs.Reading.{Reader, Reads, and_then, pure, expect_end, ahead, command, statement}
+use Rattle.hr_parse.specs.Readers.{Reader, Reads, and_then, pure, expect_end, ahead, command, statement}
 use Rattle.hr_parse.specs.Grammar.{IsCommand, IsStatement}
 use Rattle.hr_parse.specs.Parse.{Begins, NoneWith, UnexpectedAt, Unended}
 use Rattle.hr_parse.proofs.Marks.{is_the_mark}
@@ -16,7 +17,7 @@ use Rattle.hr_parse.proofs.Operands.{Fits}
 use Rattle.hr_parse.proofs.Statements.{rule_command}
 
 abbrev finish : Reader (Unit {0})
-finish = ahead m.Semicolon expect_end expect_end
+finish = ahead (m.Sign sign_of.Semicolon) expect_end expect_end
 
 abbrev ended : Ast → Reader Ast
 ended a words = and_then (finish words) (λ _. pure a)
@@ -30,18 +31,18 @@ by_parts n s = refl
 -- nothing, or a `;`
 data Ends : List Lexeme → Type 0 where
   nothing : Ends []
-  semicolon : (p : ℕ) → Ends (mark m.Semicolon p ∷ [])
+  semicolon : (p : ℕ) → Ends (mark (m.Sign sign_of.Semicolon) p ∷ [])
 
-ended_one : (a b : Ast) (x : Lexeme) (r t : List Lexeme) (v : Bool) → is_mark m.Semicolon x.word ≡ v → ended a (x ∷ r) ≡ Ok (b, t) → Ends (x ∷ r) × (a ≡ b) × (t ≡ [])
+ended_one : (a b : Ast) (x : Lexeme) (r t : List Lexeme) (v : Bool) → is_mark (m.Sign sign_of.Semicolon) x.word ≡ v → ended a (x ∷ r) ≡ Ok (b, t) → Ends (x ∷ r) × (a ≡ b) × (t ≡ [])
 ended_one a b x [] t true h e =
     let k = ok_parts a b [] t (rw h at e) in
-    (subst (λ z. Ends (z ∷ [])) (sym (is_the_mark m.Semicolon x h)) (Ends.semicolon x.at), k.0, sym k.1)
+    (subst (λ z. Ends (z ∷ [])) (sym (is_the_mark (m.Sign sign_of.Semicolon) x h)) (Ends.semicolon x.at), k.0, sym k.1)
 ended_one a b x (y ∷ r) t true h e = let z = rw h at e in absurd (cc)
 ended_one a b x r t false h e = let z = rw h at e in absurd (cc)
 
 ended_ok : (a b : Ast) (s t : List Lexeme) → ended a s ≡ Ok (b, t) → Ends s × (a ≡ b) × (t ≡ [])
 ended_ok a b [] t e = let k = ok_parts a b [] t e in (Ends.nothing, k.0, sym k.1)
-ended_ok a b (x ∷ r) t e = ended_one a b x r t (is_mark m.Semicolon x.word) refl e
+ended_ok a b (x ∷ r) t e = ended_one a b x r t (is_mark (m.Sign sign_of.Semicolon) x.word) refl e
 
 statement_of : (u s : List Lexeme) (a : Ast) → IsCommand u a → Ends s → IsStatement (u ++ s) a
 statement_of u s a l Ends.nothing = subst (λ z. IsStatement z a) (sym (append-nil u)) (IsStatement.plain l)
@@ -69,7 +70,7 @@ whole_statement n s b (IsStatement.plain {u} {a} l) =
     let k : Whole (statement n) (Fits 6 n) (u ++ []) a [] = late_statement n (u ++ []) a [] refl ((rule_command n).whole u a l [] tt) in
     subst (λ z. Whole (statement n) (Fits 6 n) z a []) (append-nil u) k
 whole_statement n s b (IsStatement.ended p {u} {a} l) =
-    late_statement n (u ++ (mark m.Semicolon p ∷ [])) a (mark m.Semicolon p ∷ []) refl ((rule_command n).whole u a l (mark m.Semicolon p ∷ []) refl)
+    late_statement n (u ++ (mark (m.Sign sign_of.Semicolon) p ∷ [])) a (mark (m.Sign sign_of.Semicolon) p ∷ []) refl ((rule_command n).whole u a l (mark (m.Sign sign_of.Semicolon) p ∷ []) refl)
 
 fits_front : (n : ℕ) (s front rest : List Lexeme) → s ≡ front ++ rest → Fits 6 n (length s) → Fits 6 n (length front)
 fits_front n s front rest e fits = let k : length s ≡ length front + length rest = ap length e ∙ length-append front rest in omega (arith, k, fits)
@@ -125,7 +126,7 @@ command_refused n s (x ∷ v) fits k e =
     )
 
 ended_err : (n : ℕ) (s : List Lexeme) (a : Ast) (x : Lexeme) (r t : List Lexeme) (v : Bool) → Fits 6 n (length s) → Got (command n) IsCommand s a (x ∷ r)
-    → is_mark m.Semicolon x.word ≡ v → ended a (x ∷ r) ≡ Err t → Cause s t
+    → is_mark (m.Sign sign_of.Semicolon) x.word ≡ v → ended a (x ∷ r) ≡ Err t → Cause s t
 ended_err n s a x r t false fits one h e =
     let z = rw h at e in
     let q : (x ∷ r) ≡ t = cc in
@@ -144,13 +145,13 @@ ended_err n s a x (y ∷ r) t true fits one h e =
     let q : (y ∷ r) ≡ t = cc in
     let front : List Lexeme = one.front ++ x ∷ [] in
     let split : s ≡ front ++ y ∷ r = one.split ∙ sym (append_assoc one.front (x ∷ []) (y ∷ r)) in
-    let all : IsStatement front a = subst (λ z. IsStatement (one.front ++ z ∷ []) a) (sym (is_the_mark m.Semicolon x h)) (IsStatement.ended x.at one.gives) in
+    let all : IsStatement front a = subst (λ z. IsStatement (one.front ++ z ∷ []) a) (sym (is_the_mark (m.Sign sign_of.Semicolon) x h)) (IsStatement.ended x.at one.gives) in
     let stops = λ (w : List Lexeme). by_parts n (front ++ y ∷ w) ∙ rw (append_assoc one.front (x ∷ []) (y ∷ w), one.same x (y ∷ r) (y ∷ w) refl, h) refl in
     subst (λ z. Cause s z) q (Cause.at_word y r (front, y, r, split, refl, begun_all front a all, none_with n front y (fits_front n s front (y ∷ r) split fits) stops))
 
 ended_refused : (n : ℕ) (s : List Lexeme) (a : Ast) (m t : List Lexeme) → Fits 6 n (length s) → Got (command n) IsCommand s a m → ended a m ≡ Err t → Cause s t
 ended_refused n s a [] t fits one e = absurd (cc)
-ended_refused n s a (x ∷ r) t fits one e = ended_err n s a x r t (is_mark m.Semicolon x.word) fits one refl e
+ended_refused n s a (x ∷ r) t fits one e = ended_err n s a x r t (is_mark (m.Sign sign_of.Semicolon) x.word) fits one refl e
 
 pub refused : (n : ℕ) (s t : List Lexeme) → Fits 6 n (length s) → statement n s ≡ Err t → Cause s t
 refused n s t fits e = elim (bind_err (command n s) ended t (sym (by_parts n s) ∙ e)) [

@@ -6,9 +6,9 @@ use Rattle.hr_lex.specs.declared.token.LexError.TheVariants as l
 use Rattle.hr_parse.specs.declared.ast.Ast.{Ast}
 use Rattle.hr_parse.specs.declared.ast.Ast.TheVariants as ast
 use Rattle.hr_parse.specs.Grammar.{Optional, IsName, IsDelete, IsCommand, IsStatement}
-use Rattle.hr_parse.specs.declared.texts.ParseError.TheVariants as e
+use Rattle.hr_parse.specs.declared.parsing.ParseError.TheVariants as e
 use Rattle.hr_parse.specs.Words.{number, same_mark}
-use Rattle.hr_parse.specs.Reading.{name, delete, filter, command, statement}
+use Rattle.hr_parse.specs.Readers.{name, delete, filter, command, statement}
 use Rattle.hr_parse.specs.Parse.{IsTextOf, UnexpectedAt, Unended, TextRefused, words}
 use Rattle.hr_parse.proofs.Whole.{refused, cause_end, cause_word}
 

@@ -6,5 +6,3 @@ mod printing;
 
 pub use printing::print;
 
-#[cfg(test)]
-mod tests;

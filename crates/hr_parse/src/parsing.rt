@@ -9,8 +9,8 @@ ghost use Rattle.hr_parse.specs.declared.word.Lexeme.{Lexeme};
 
 use crate::ast::Ast;
 use crate::lexeme::lexemes;
+use crate::parser::{Parser, Stop};
 use crate::word::Lexeme;
-use crate::words::{Stop, Words};
 use hr_lex::{LexError, Reading, read};
 use std::alloc::{AllocError, Global};
 
@@ -31,12 +31,12 @@ pub fn syntax(alloc: Global, words: &[Lexeme]) -> Result<Ast, SyntaxError>
     ensures only { (a : Ast) → IsStatement words.now a → (result ≡ Ok a) ⊎ (result ≡ Err SyntaxError.Memory) }
     ensures err { IfErr result (Refused words.now) }
 {
-    let mut reader = Words { rest: words };
+    let mut parser = Parser { alloc, rest: words };
     // Each level of rules but three takes a word.
-    match reader.statement(alloc, 4 * words.len() + 6) {
+    match parser.statement(4 * words.len() + 6) {
         Ok(ast) => Ok(ast),
         Err(Stop::Memory) => Err(SyntaxError::Memory),
-        Err(Stop::Unexpected) => match reader.rest {
+        Err(Stop::Unexpected) => match parser.rest {
             [first, ..] => Err(SyntaxError::AtWord(first.at)),
             [] => Err(SyntaxError::AtEnd),
         },
@@ -57,7 +57,7 @@ pub enum ParseError {
 
 impl From<AllocError> for ParseError {
     ghost use Rattle.std.specs.Prelude.{◌≡◌};
-    ghost use Rattle.hr_parse.specs.declared.texts.ParseError.TheVariants.{Memory};
+    ghost use Rattle.hr_parse.specs.declared.parsing.ParseError.TheVariants.{Memory};
 
     ghost from_gives = { λ _ e. e ≡ Memory };
 

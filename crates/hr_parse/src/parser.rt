@@ -1,12 +1,12 @@
 //! The words that are still to be read, and how rules take them.
 
 ghost use Rattle.std.specs.Prelude.{◌≡◌, suc, MatchResult};
-ghost use Rattle.hr_parse.specs.Reading as spec;
-ghost use Rattle.hr_parse.specs.Reading.{Reads};
+ghost use Rattle.hr_parse.specs.Readers as spec;
+ghost use Rattle.hr_parse.specs.Readers.{Eats, Reads};
 
 use crate::word::{Lexeme, Mark, Word, is_mark};
 use hr_rel::Op;
-use std::alloc::AllocError;
+use std::alloc::{AllocError, Global};
 
 /// Why a rule of the grammar isn't read.
 #[derive(Clone, Copy, Debug)]
@@ -19,7 +19,7 @@ pub enum Stop {
 
 impl From<AllocError> for Stop {
     ghost use Rattle.std.specs.Prelude.{◌≡◌};
-    ghost use Rattle.hr_parse.specs.declared.words.Stop.TheVariants.{Memory};
+    ghost use Rattle.hr_parse.specs.declared.parser.Stop.TheVariants.{Memory};
 
     ghost from_gives = { λ _ e. e ≡ Memory };
 
@@ -28,7 +28,7 @@ impl From<AllocError> for Stop {
     }
 }
 
-/// One level deeper. The depth of a text's rules is bounded by its words, so the bound is never met.
+/// One level deeper, or one turn more. Both are bounded by the number of words, so the bound is never met.
 pub fn deeper(depth: usize) -> Result<usize, Stop>
     ensures { MatchResult result (λ less. depth ≡ suc less) (λ e. (e ≡ Stop.Unexpected) × (depth ≡ 0)) }
 {
@@ -40,11 +40,12 @@ pub fn deeper(depth: usize) -> Result<usize, Stop>
 
 /// The words that are still to be read. After [`Stop::Unexpected`], the first of them is the unexpected one.
 #[derive(Drop)]
-pub struct Words<'a> {
+pub struct Parser<'a> {
+    pub alloc: Global,
     pub rest: &'a [Lexeme],
 }
 
-impl<'a> Words<'a> {
+impl<'a> Parser<'a> {
     /// The place of the next word, and 0 where there is none.
     pub fn place(&self) -> u32
         ensures { result ≡ spec.place self.now.rest.now }
@@ -80,12 +81,32 @@ impl<'a> Words<'a> {
         }
     }
 
+    /// Takes this mark, where it comes next, and gives its place.
+    pub fn eat_at(&mut self, mark: Mark) -> Option<u32>
+        ensures { Eats mark self.old.rest.now result self.new.rest.now }
+    {
+        let at = self.place();
+        if self.eat(mark) { Some(at) } else { None }
+    }
+
     /// Takes this mark, which has to come next.
     pub fn expect(&mut self, mark: Mark) -> Result<(), Stop>
         ensures { Reads (spec.expect mark self.old.rest.now) result self.new.rest.now }
     {
         if self.eat(mark) {
             Ok(())
+        } else {
+            Err(Stop::Unexpected)
+        }
+    }
+
+    /// Takes this mark, which has to come next, and gives its place.
+    pub fn expect_at(&mut self, mark: Mark) -> Result<u32, Stop>
+        ensures { Reads (spec.expect_at mark self.old.rest.now) result self.new.rest.now }
+    {
+        let at = self.place();
+        if self.eat(mark) {
+            Ok(at)
         } else {
             Err(Stop::Unexpected)
         }

@@ -1,5 +1,7 @@
-use super::*;
+//! The one texts of statements.
+
 use hr_parse::{ParseError, parse};
+use hr_print::print;
 use std::alloc::Global;
 use std::test::Fail;
 

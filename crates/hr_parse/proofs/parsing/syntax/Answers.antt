@@ -1,6 +1,6 @@
 use Rattle.std.proofs.Common.{ap, inl, arith, Ok}
 use Rattle.hr_parse.proofs.Whole.{read_is, refused, cause_end, cause_word, stops_at, no_other, not_refused}
-use Rattle.hr_parse.proofs.texts.syntax.Goals as goal
+use Rattle.hr_parse.proofs.parsing.syntax.Goals as goal
 
 pub returns-in-Ok-clause-ok : goal.returns-in-Ok-clause-ok
 returns-in-Ok-clause-ok c = read_is _ _ _ _ c.in-Ok.ensures

@@ -1,6 +1,7 @@
-use super::*;
+//! Texts that are no statement, and the place that is told of each.
+
+use hr_parse::{Ast, ParseError, parse};
 use hr_lex::LexError;
-use std::alloc::{AllocError, Global};
 use std::test::Fail;
 
 /// Texts whose first unexpected token, or end, stands at this place.
@@ -117,29 +118,5 @@ fn lexical_errors(rt: HostRuntime) -> Result<(), Fail> {
             "{text}"
         );
     }
-    Ok(())
-}
-
-/// A text between parentheses, as many as asked.
-fn nested(alloc: Global, front: &str, inner: &str, depth: u32) -> Result<String, AllocError> {
-    let mut text = String::from_str(alloc, front)?;
-    for _ in 0..depth {
-        text.push_str("(")?;
-    }
-    text.push_str(inner)?;
-    for _ in 0..depth {
-        text.push_str(")")?;
-    }
-    Ok(text)
-}
-
-/// The texts with the most nested parentheses are read within the ordinary stack.
-#[test]
-fn deepest_texts(rt: HostRuntime) -> Result<(), Fail> {
-    let alloc = rt.alloc();
-    let sum = nested(alloc, "UPDATE t SET a=", "1", 504)?;
-    assert!(rt; parse(alloc, sum.as_str()).is_ok());
-    let condition = nested(alloc, "DELETE FROM t WHERE ", "a=1", 500)?;
-    assert!(rt; parse(alloc, condition.as_str()).is_ok());
     Ok(())
 }

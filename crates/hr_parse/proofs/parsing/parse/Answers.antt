@@ -3,7 +3,7 @@ use Rattle.std.proofs.lemmas.Grind.{common_steps}
 use Rattle.hr_parse.specs.declared.word.Lexeme.{Lexeme}
 use Rattle.hr_parse.specs.Parse.{TextRefused, words, error}
 use Rattle.hr_parse.proofs.Told.{Read, told_err, short}
-use Rattle.hr_parse.proofs.texts.parse.Goals as goal
+use Rattle.hr_parse.proofs.parsing.parse.Goals as goal
 
 pub returns-clause-err : goal.returns-clause-err
 returns-clause-err c =

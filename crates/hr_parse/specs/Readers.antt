@@ -31,11 +31,13 @@ use Rattle.hr_parse.specs.declared.ast.NameAt.{NameAt}
 use Rattle.hr_parse.specs.declared.ast.ColumnAst.{ColumnAst}
 use Rattle.hr_parse.specs.declared.word.Mark.{Mark}
 use Rattle.hr_parse.specs.declared.word.Mark.TheVariants as m
+use Rattle.hr_lex.specs.declared.token.Keyword.TheVariants as kw
+use Rattle.hr_parse.specs.declared.word.Sign.TheVariants as sign_of
 use Rattle.hr_parse.specs.declared.word.Word.{Word}
 use Rattle.hr_parse.specs.declared.word.Word.TheVariants as w
 use Rattle.hr_parse.specs.declared.word.Lexeme.{Lexeme}
-use Rattle.hr_parse.specs.declared.words.Stop.{Stop}
-use Rattle.hr_parse.specs.declared.words.Stop.TheVariants.{Unexpected, Memory}
+use Rattle.hr_parse.specs.declared.parser.Stop.{Stop}
+use Rattle.hr_parse.specs.declared.parser.Stop.TheVariants.{Unexpected, Memory}
 use Rattle.hr_parse.specs.Words.{is_mark}
 use Rattle.hr_parse.specs.Trees.{minus, sum, difference, product, placed, simple}
 
@@ -85,6 +87,14 @@ after m words = if sees m words then drop 1 words else words
 
 abbrev pub expect : Mark → Reader (Unit {0})
 expect m = λ words. if sees m words then Ok (tt, drop 1 words) else Err words
+
+abbrev pub expect_at : Mark → Reader ℕ
+expect_at m = λ words. if sees m words then Ok (place words, drop 1 words) else Err words
+
+-- what the taking of a mark ensures, where it needn't come next
+abbrev pub Eats : Mark → List Lexeme → Option ℕ → List Lexeme → Type 0
+Eats m old (Some at) new = (sees m old ≡ true) × (at ≡ place old) × (new ≡ drop 1 old)
+Eats m old None new = (sees m old ≡ false) × (new ≡ old)
 
 -- Reads on with the first where this mark comes next, and with the second where it doesn't. The first is told its place.
 abbrev pub ahead_at : {A : Type 0} → Mark → (ℕ → Reader A) → Reader A → Reader A
@@ -161,7 +171,7 @@ name (first ∷ rest) = name_of first rest
 unfoldable pub column : Reader ColumnAst
 column = do
   first ← name
-  second ← optional m.Dot name
+  second ← optional (m.Sign sign_of.Dot) name
   pure (record { first = first; second = second })
 
 -- ---- literals and operands
@@ -213,7 +223,7 @@ unfoldable pub constant : Reader LiteralAst
 constant = literal_by constant_word (λ first. first.at)
 
 unfoldable pub literal : Reader LiteralAst
-literal = ahead_at m.Minus negative (ahead_at m.Null (λ at. pure (record { value = lit.Null; at = at })) constant)
+literal = ahead_at (m.Sign sign_of.Minus) negative (ahead_at (m.Keyword kw.Null) (λ at. pure (record { value = lit.Null; at = at })) constant)
 
 unfoldable pub operand_at : Reader OperandAst
 operand_at = at_name (do a ← column; pure (operand_of.Column a)) (do a ← literal; pure (operand_of.Literal a))
@@ -224,7 +234,7 @@ unfoldable pub listed_behind : {A : Type 0} → Reader A → ℕ → List A → 
 listed_behind f zero front = refuse
 listed_behind f (suc n) front = do
   a ← f
-  ahead m.Comma (listed_behind f n (front ++ a ∷ [])) (pure (front ++ a ∷ []))
+  ahead (m.Sign sign_of.Comma) (listed_behind f n (front ++ a ∷ [])) (pure (front ++ a ∷ []))
 
 abbrev pub listed : {A : Type 0} → Reader A → ℕ → Reader (List A)
 listed f n = listed_behind f n []
@@ -234,28 +244,28 @@ listed f n = listed_behind f n []
 unfoldable pub between : OperandAst → Bool → Reader CondAst
 between operand negated = do
   low ← operand_at
-  expect m.And
+  expect (m.Keyword kw.And)
   high ← operand_at
   pure (c.Between operand low high negated)
 
 unfoldable pub among : ℕ → OperandAst → Bool → Reader CondAst
 among n operand negated = do
-  expect m.LeftParen
+  expect (m.Sign sign_of.LeftParen)
   list ← listed literal n
-  expect m.RightParen
+  expect (m.Sign sign_of.RightParen)
   pure (c.Among operand list negated)
 
 unfoldable pub nullity : OperandAst → Reader CondAst
-nullity operand = ahead m.Not (do expect m.Null; pure (c.IsNull operand true)) (do expect m.Null; pure (c.IsNull operand false))
+nullity operand = ahead (m.Keyword kw.Not) (do expect (m.Keyword kw.Null); pure (c.IsNull operand true)) (do expect (m.Keyword kw.Null); pure (c.IsNull operand false))
 
 abbrev pub range_or_list_of : ℕ → OperandAst → Bool → Reader CondAst
-range_or_list_of n operand negated = ahead m.Between (between operand negated) (ahead m.In (among n operand negated) refuse)
+range_or_list_of n operand negated = ahead (m.Keyword kw.Between) (between operand negated) (ahead (m.Keyword kw.In) (among n operand negated) refuse)
 
 unfoldable pub range_or_list : ℕ → OperandAst → Reader CondAst
-range_or_list n operand = ahead m.Not (range_or_list_of n operand true) (range_or_list_of n operand false)
+range_or_list n operand = ahead (m.Keyword kw.Not) (range_or_list_of n operand true) (range_or_list_of n operand false)
 
 unfoldable pub check : ℕ → OperandAst → Reader CondAst
-check n operand = at_compare (λ o. do right ← operand_at; pure (c.Compare o operand right)) (ahead m.Is (nullity operand) (range_or_list n operand))
+check n operand = at_compare (λ o. do right ← operand_at; pure (c.Compare o operand right)) (ahead (m.Keyword kw.Is) (nullity operand) (range_or_list n operand))
 
 unfoldable pub test : ℕ → Reader CondAst
 test n = do
@@ -266,8 +276,8 @@ unfoldable mutual
   pub neg : ℕ → Reader CondAst
   neg zero = refuse
   neg (suc n) =
-      ahead m.Not (do inner ← neg n; pure (c.Not inner))
-      (ahead m.LeftParen (do inner ← cond n; expect m.RightParen; pure inner)
+      ahead (m.Keyword kw.Not) (do inner ← neg n; pure (c.Not inner))
+      (ahead (m.Sign sign_of.LeftParen) (do inner ← cond n; expect (m.Sign sign_of.RightParen); pure inner)
       (test n))
 
   pub conj : ℕ → Reader CondAst
@@ -278,7 +288,7 @@ unfoldable mutual
 
   pub conj_behind : ℕ → CondAst → Reader CondAst
   conj_behind zero left = refuse
-  conj_behind (suc n) left = ahead m.And (do right ← neg n; conj_behind n (c.And left right)) (pure left)
+  conj_behind (suc n) left = ahead (m.Keyword kw.And) (do right ← neg n; conj_behind n (c.And left right)) (pure left)
 
   pub cond : ℕ → Reader CondAst
   cond zero = refuse
@@ -288,7 +298,7 @@ unfoldable mutual
 
   pub cond_behind : ℕ → CondAst → Reader CondAst
   cond_behind zero left = refuse
-  cond_behind (suc n) left = ahead m.Or (do right ← conj n; cond_behind n (c.Or left right)) (pure left)
+  cond_behind (suc n) left = ahead (m.Keyword kw.Or) (do right ← conj n; cond_behind n (c.Or left right)) (pure left)
 
 -- ---- expressions; the number bounds how deep rules nest
 
@@ -296,7 +306,7 @@ unfoldable mutual
   pub factor : ℕ → Reader ExprAst
   factor zero = refuse
   factor (suc n) =
-      ahead_at m.LeftParen (λ at. do inner ← expr n; expect m.RightParen; pure (placed inner at))
+      ahead_at (m.Sign sign_of.LeftParen) (λ at. do inner ← expr n; expect (m.Sign sign_of.RightParen); pure (placed inner at))
       (do operand ← operand_at; pure (simple operand))
 
   pub term : ℕ → Reader ExprAst
@@ -307,7 +317,7 @@ unfoldable mutual
 
   pub term_behind : ℕ → ExprAst → Reader ExprAst
   term_behind zero left = refuse
-  term_behind (suc n) left = ahead m.Star (do right ← factor n; term_behind n (product left right)) (pure left)
+  term_behind (suc n) left = ahead (m.Sign sign_of.Star) (do right ← factor n; term_behind n (product left right)) (pure left)
 
   pub expr : ℕ → Reader ExprAst
   expr zero = refuse
@@ -318,8 +328,8 @@ unfoldable mutual
   pub expr_behind : ℕ → ExprAst → Reader ExprAst
   expr_behind zero left = refuse
   expr_behind (suc n) left =
-      ahead m.Plus (do right ← term n; expr_behind n (sum left right))
-      (ahead m.Minus (do right ← term n; expr_behind n (difference left right))
+      ahead (m.Sign sign_of.Plus) (do right ← term n; expr_behind n (sum left right))
+      (ahead (m.Sign sign_of.Minus) (do right ← term n; expr_behind n (difference left right))
       (pure left))
 
 -- ---- SELECT
@@ -327,32 +337,32 @@ unfoldable mutual
 unfoldable pub aggregated : AggWord → ℕ → Reader ItemAst
 aggregated word at = do
   column ← column
-  expect m.RightParen
+  expect (m.Sign sign_of.RightParen)
   pure (item_of.Aggregate word column at)
 
 unfoldable pub counted : ℕ → Reader ItemAst
 counted at = do
-  expect m.LeftParen
-  ahead m.Star (do expect m.RightParen; pure (item_of.CountAll at)) (aggregated word.Count at)
+  expect (m.Sign sign_of.LeftParen)
+  ahead (m.Sign sign_of.Star) (do expect (m.Sign sign_of.RightParen); pure (item_of.CountAll at)) (aggregated word.Count at)
 
 unfoldable pub folded : AggWord → ℕ → Reader ItemAst
 folded word at = do
-  expect m.LeftParen
+  expect (m.Sign sign_of.LeftParen)
   aggregated word at
 
 unfoldable pub item : ℕ → Reader ItemAst
 item n =
-    ahead_at m.Count counted
-    (ahead_at m.Sum (folded word.Sum)
-    (ahead_at m.Min (folded word.Min)
-    (ahead_at m.Max (folded word.Max)
+    ahead_at (m.Keyword kw.Count) counted
+    (ahead_at (m.Keyword kw.Sum) (folded word.Sum)
+    (ahead_at (m.Keyword kw.Min) (folded word.Min)
+    (ahead_at (m.Keyword kw.Max) (folded word.Max)
     (do value ← expr n; pure (item_of.Plain value)))))
 
 unfoldable pub items : ℕ → Reader Items
-items n = ahead_at m.Star (λ at. pure (items_of.Star at)) (do all ← listed (item n) n; pure (items_of.Listed all))
+items n = ahead_at (m.Sign sign_of.Star) (λ at. pure (items_of.Star at)) (do all ← listed (item n) n; pure (items_of.Listed all))
 
 unfoldable pub alias : Reader (Option NameAt)
-alias = ahead m.As (do a ← name; pure (Some a)) (at_name (do a ← name; pure (Some a)) (pure None))
+alias = ahead (m.Keyword kw.As) (do a ← name; pure (Some a)) (at_name (do a ← name; pure (Some a)) (pure None))
 
 unfoldable pub entry : Reader EntryAst
 entry = do
@@ -363,26 +373,26 @@ entry = do
 unfoldable pub joined : ℕ → Reader JoinAst
 joined n = do
   entry ← entry
-  expect m.On
+  expect (m.Keyword kw.On)
   on ← cond n
   pure (record { entry = entry; on = on })
 
 unfoldable pub join : ℕ → Reader (Option JoinAst)
 join n =
-    ahead m.Inner (do expect m.Join; j ← joined n; pure (Some j))
-    (ahead m.Join (do j ← joined n; pure (Some j))
+    ahead (m.Keyword kw.Inner) (do expect (m.Keyword kw.Join); j ← joined n; pure (Some j))
+    (ahead (m.Keyword kw.Join) (do j ← joined n; pure (Some j))
     (pure None))
 
 unfoldable pub filter : ℕ → Reader (Option CondAst)
-filter n = optional m.Where (cond n)
+filter n = optional (m.Keyword kw.Where) (cond n)
 
 unfoldable pub groups : ℕ → Reader (List ColumnAst)
-groups n = ahead m.Group (do expect m.By; listed column n) (pure [])
+groups n = ahead (m.Keyword kw.Group) (do expect (m.Keyword kw.By); listed column n) (pure [])
 
 unfoldable pub select : ℕ → Reader SelectAst
 select n = do
   items ← items n
-  expect m.From
+  expect (m.Keyword kw.From)
   first ← entry
   join ← join n
   filter ← filter n
@@ -392,20 +402,21 @@ select n = do
 -- ---- INSERT, UPDATE and DELETE
 
 unfoldable pub tuple : ℕ → Reader TupleAst
-tuple n = λ words. and_then (expect m.LeftParen words) (λ _. do
+tuple n = do
+  at ← expect_at (m.Sign sign_of.LeftParen)
   values ← listed literal n
-  expect m.RightParen
-  pure (record { values = values; at = place words }))
+  expect (m.Sign sign_of.RightParen)
+  pure (record { values = values; at = at })
 
 unfoldable pub named_columns : ℕ → Reader (List NameAt)
-named_columns n = ahead m.LeftParen (do all ← listed name n; expect m.RightParen; pure all) (pure [])
+named_columns n = ahead (m.Sign sign_of.LeftParen) (do all ← listed name n; expect (m.Sign sign_of.RightParen); pure all) (pure [])
 
 unfoldable pub insert : ℕ → Reader InsertAst
 insert n = do
-  expect m.Into
+  expect (m.Keyword kw.Into)
   table ← name
   columns ← named_columns n
-  expect m.Values
+  expect (m.Keyword kw.Values)
   tuples ← listed (tuple n) n
   pure (record { table = table; columns = columns; tuples = tuples })
 
@@ -419,14 +430,14 @@ assignment n = do
 unfoldable pub update : ℕ → Reader UpdateAst
 update n = do
   table ← name
-  expect m.Set
+  expect (m.Keyword kw.Set)
   sets ← listed (assignment n) n
   filter ← filter n
   pure (record { table = table; sets = sets; filter = filter })
 
 unfoldable pub delete : ℕ → Reader DeleteAst
 delete n = do
-  expect m.From
+  expect (m.Keyword kw.From)
   table ← name
   filter ← filter n
   pure (record { table = table; filter = filter })
@@ -435,14 +446,14 @@ delete n = do
 
 unfoldable pub command : ℕ → Reader Ast
 command n =
-    ahead m.Select (do a ← select n; pure (ast.Select a))
-    (ahead m.Insert (do a ← insert n; pure (ast.Insert a))
-    (ahead m.Update (do a ← update n; pure (ast.Update a))
-    (ahead m.Delete (do a ← delete n; pure (ast.Delete a))
+    ahead (m.Keyword kw.Select) (do a ← select n; pure (ast.Select a))
+    (ahead (m.Keyword kw.Insert) (do a ← insert n; pure (ast.Insert a))
+    (ahead (m.Keyword kw.Update) (do a ← update n; pure (ast.Update a))
+    (ahead (m.Keyword kw.Delete) (do a ← delete n; pure (ast.Delete a))
     refuse)))
 
 unfoldable pub statement : ℕ → Reader Ast
 statement n = do
   a ← command n
-  ahead m.Semicolon expect_end expect_end
+  ahead (m.Sign sign_of.Semicolon) expect_end expect_end
   pure a

@@ -1,4 +1,6 @@
-use super::*;
+//! The tokens of texts, and the first errors of tokens.
+
+use hr_lex::{Keyword, LexError, Reading, Token, TokenKind, read, tokens};
 use std::test::Fail;
 
 const fn token(kind: TokenKind, from: u32, to: u32) -> Token {
