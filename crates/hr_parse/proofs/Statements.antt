@@ -1,5 +1,6 @@
 -- The readers of statements read what the grammar says.
 use Rattle.std.proofs.Common.{◌≡◌, ℕ, ◌+◌, Bool, true, false, if◌then◌else◌, List, [], ◌∷◌, ◌++◌, drop, Option, Some, None, Ok, Err, refl, sym, subst, arith, lit<, append_assoc}
+use Rattle.std.proofs.lemmas.List.{append-nil}
 use Rattle.hr_rel.specs.declared.expr.Op.{Op}
 use Rattle.hr_rel.specs.declared.expr.Op.TheVariants as op
 use Rattle.hr_parse.specs.declared.ast.Ast.{Ast}
@@ -27,10 +28,10 @@ use Rattle.hr_lex.specs.declared.token.Keyword.TheVariants as kw
 use Rattle.hr_parse.specs.declared.word.Sign.TheVariants as sign_of
 use Rattle.hr_parse.specs.declared.word.Lexeme.{Lexeme}
 use Rattle.hr_parse.specs.Words.{mark, compare, same_mark}
-use Rattle.hr_parse.specs.Readers.{Outcome, Reader, and_then, ◌>>=◌, pure, refuse, sees, sees_name, place, expect, ahead_at, comparison, is_equal, expect_equal, literal, listed, aggregated, counted, folded, item, items, alias, entry, joined, join, filter, groups, select, tuple, named_columns, insert, assignment, update, delete, command}
-use Rattle.hr_parse.specs.Grammar.{Optional, Listed, IsName, IsColumn, IsLiteral, IsCond, IsExpr, IsItem, AreItems, IsAlias, IsEntry, IsJoined, IsJoin, AreGroups, IsSelect, IsTuple, AreColumns, IsInsert, IsSet, IsUpdate, IsDelete, IsCommand}
+use Rattle.hr_parse.specs.Readers.{Outcome, Reader, and_then, ◌>>=◌, pure, refuse, sees, sees_name, place, expect, ahead_at, comparison, is_equal, expect_equal, literal, listed, aggregated, counted, folded, item, items, alias, entry, joined, join, filter, groups, select, tuple, named_columns, insert, assignment, update, delete, command, terminated}
+use Rattle.hr_parse.specs.Grammar.{Optional, Listed, IsName, IsColumn, IsLiteral, IsCond, IsExpr, IsItem, AreItems, IsAlias, IsEntry, IsJoined, IsJoin, AreGroups, IsSelect, IsTuple, AreColumns, IsInsert, IsSet, IsUpdate, IsDelete, IsCommand, IsStatement}
 use Rattle.hr_parse.proofs.Rules.{Stops, Rule, Seq, Map, Done, IsMark, Ahead, Only, Either, rule_iso, rule_seq, rule_map, rule_pure, rule_expect, rule_weak, rule_ahead, rule_only, rule_at_name, is_the_compare}
-use Rattle.hr_parse.proofs.Stops.{any, ending, stops_end, stops_here, stops_rest, firm_mark, firm_seq, firm_map, through_map, through_seq, through_optional, Through}
+use Rattle.hr_parse.proofs.Stops.{any, nothing_more, stops_all, ending, stops_end, stops_here, stops_rest, firm_mark, firm_seq, firm_map, through_map, through_seq, through_optional, Through}
 use Rattle.hr_parse.proofs.Operands.{Fits, never, never_stops, by_test, Tested, rule_test, rule_alike, rule_name, rule_column, rule_literal, rule_optional, rule_listed}
 use Rattle.hr_parse.proofs.Conditions.{rule_cond}
 use Rattle.hr_parse.proofs.Expressions.{rule_expr, expr_unseen}
@@ -599,3 +600,40 @@ rule_command n = rule_iso to_command of_command
     (λ i h. omega (arith, h)) (λ u a t l st. no_update u a t l))
     (λ i h. omega (arith, h)) (λ u a t l st. no_insert u a t l))
     (λ i h. omega (arith, h)) (λ u a t l st. no_select u a t l))
+
+-- ---- statements, and tuples that stand alone
+
+abbrev Ending : List Lexeme → Unit {0} → Type 0
+Ending = Ahead (m.Sign sign_of.Semicolon) (λ _. Done tt) (Done tt)
+
+abbrev Terminated : List Lexeme → Ast → Type 0
+Terminated = Seq IsCommand (λ a. Map (λ _. a) Ending)
+
+to_statement : (u : List Lexeme) (a : Ast) → Terminated u a → IsStatement u a
+to_statement w b (Seq.seq {u} {a} l (Map.map (Ahead.this p Done.done))) = IsStatement.ended p l
+to_statement w b (Seq.seq {u} {a} l (Map.map (Ahead.other Done.done))) = subst (λ z. IsStatement z a) (sym (append-nil u)) (IsStatement.plain l)
+
+of_statement : (u : List Lexeme) (a : Ast) → IsStatement u a → Terminated u a
+of_statement w b (IsStatement.plain {u} {a} l) =
+    let k : Terminated (u ++ []) a = Seq.seq l (Map.map (Ahead.other Done.done)) in
+    subst (λ z. Terminated z a) (append-nil u) k
+of_statement w b (IsStatement.ended p l) = Seq.seq l (Map.map (Ahead.this p Done.done))
+
+no_semicolon : (t : List Lexeme) → Stops nothing_more t → sees (m.Sign sign_of.Semicolon) t ≡ false
+no_semicolon [] st = refl
+no_semicolon (x ∷ t) st = absurd (cc)
+
+ending_follows : (a : Ast) (v : List Lexeme) (b : Ast) (t : List Lexeme) → Map (λ _. a) Ending v b → Stops nothing_more t → Stops ending (v ++ t)
+unfolding same_mark
+ending_follows a v b t (Map.map (Ahead.this p Done.done)) st = refl
+ending_follows a v b t (Map.map (Ahead.other Done.done)) st = stops_all ending t st
+
+pub rule_terminated : (n : ℕ) → Rule (terminated n) IsStatement nothing_more (Fits 6 n)
+unfolding terminated
+rule_terminated n = rule_iso to_statement of_statement
+    (rule_seq (Fits 6 n) (rule_command n)
+    (λ a. rule_map (λ _. a) (rule_ahead (λ _. rule_pure {c = nothing_more} {P = Fits 6 n} tt) (rule_pure tt) (λ i h. omega (arith, h)) (done_unseen (m.Sign sign_of.Semicolon) nothing_more tt no_semicolon)))
+    (both 6 n) ending_follows)
+
+pub rule_only_tuple : (n : ℕ) → Rule (tuple n) IsTuple nothing_more (Fits 6 n)
+rule_only_tuple n = rule_weak nothing_more (Fits 6 n) (λ t st. never_stops t) (λ i h. h) (rule_tuple n)

@@ -43,6 +43,14 @@ pub stops_end : (c : Lexeme → Bool) → ((p : ℕ) → c (mark (m.Sign sign_of
 stops_end c e [] st = tt
 stops_end c e (x ∷ t) st = rw (at_end x st) (e x.at)
 
+-- stopped by any word
+abbrev pub nothing_more : Lexeme → Bool
+nothing_more x = true
+
+pub stops_all : (c : Lexeme → Bool) (t : List Lexeme) → Stops nothing_more t → Stops c t
+stops_all c [] st = tt
+stops_all c (x ∷ t) st = absurd (cc)
+
 -- ---- what stops before a part: a part that begins with a word that stops, or that may be nothing
 
 abbrev pub Firm : {A : Type 0} → (Lexeme → Bool) → (List Lexeme → A → Type 0) → Type 0

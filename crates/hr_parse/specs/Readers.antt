@@ -71,6 +71,9 @@ p >> q = p >>= (λ _. q)
 abbrev pub pure : {A : Type 0} → A → Reader A
 pure a = λ words. Ok (a, words)
 
+abbrev pub nothing : Reader (Unit {0})
+nothing = pure tt
+
 abbrev pub refuse : {A : Type 0} → Reader A
 refuse = λ words. Err words
 
@@ -452,8 +455,23 @@ command n =
     (ahead (m.Keyword kw.Delete) (do a ← delete n; pure (ast.Delete a))
     refuse)))
 
-unfoldable pub statement : ℕ → Reader Ast
-statement n = do
+-- a command, and a `;` where one comes next
+unfoldable pub terminated : ℕ → Reader Ast
+terminated n = do
   a ← command n
-  ahead (m.Sign sign_of.Semicolon) expect_end expect_end
+  ahead (m.Sign sign_of.Semicolon) nothing nothing
   pure a
+
+-- what the reader reads, and then the end
+abbrev pub alone : {A : Type 0} → Reader A → Reader A
+alone f = do
+  a ← f
+  expect_end
+  pure a
+
+unfoldable pub statement : ℕ → Reader Ast
+statement n = alone (terminated n)
+
+-- a tuple that stands alone
+unfoldable pub only_tuple : ℕ → Reader TupleAst
+only_tuple n = alone (tuple n)

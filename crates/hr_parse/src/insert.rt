@@ -23,6 +23,16 @@ impl<'a> Parser<'a> {
         Ok(TupleAst { values, at })
     }
 
+    /// A tuple, and then the end.
+    #[tactic(auto, unfolding(crate::specs::Readers::only_tuple))]
+    pub fn only_tuple(&mut self, depth: usize) -> Result<TupleAst, Stop>
+        ensures { Reads (spec.only_tuple depth self.old.rest.now) result self.new.rest.now }
+    {
+        let tuple = self.tuple(depth)?;
+        self.expect_end()?;
+        Ok(tuple)
+    }
+
     /// `[ "(" name { "," name } ")" ]`
     #[tactic(auto, unfolding(crate::specs::Readers::named_columns))]
     fn named_columns(&mut self, depth: usize) -> Result<Seq<NameAt>, Stop>

@@ -1,10 +1,11 @@
 //! Tokens as words.
 
-ghost use Rattle.std.specs.Prelude.{◌≡◌, ◌≤◌, false, map, length, IfOk};
+ghost use Rattle.std.specs.Prelude.{◌≡◌, ◌≤◌, ◌<◌, ◌+◌, ◌^◌, ◌⊎◌, false, map, length, IfOk};
 ghost use Rattle.std.specs.List.{AllByRecursion};
 ghost use Rattle.std.specs.Str.{str_to_ascii_lowercase};
 ghost use Rattle.hr_lex.specs.Tokens.{IsTokenOf, IsNameText};
 ghost use Rattle.hr_parse.specs.Lexemes as spec;
+ghost use Rattle.hr_parse.specs.Parse.{moved};
 
 use crate::word::{Lexeme, Mark, Sign, Word};
 use hr_lex::{Token, TokenKind};
@@ -86,10 +87,16 @@ fn word(alloc: Global, kind: TokenKind, bytes: &[u8]) -> Result<Word, AllocError
     })
 }
 
-/// What the tokens of a text say.
-pub fn lexemes(alloc: Global, text: &[u8], mut tokens: &[Token]) -> Result<Vec<Lexeme>, AllocError>
-    requires { AllByRecursion (IsTokenOf text.now) tokens.now }
-    ensures { IfOk result (λ v. v.items ≡ spec.lexemes text.now tokens.entry.now) }
+/// What the tokens of a text say, which begins at the place `from` of a whole one.
+pub fn lexemes(
+    alloc: Global,
+    text: &[u8],
+    mut tokens: &[Token],
+    from: u32,
+) -> Result<Vec<Lexeme>, AllocError>
+    requires fits { (from ≡ 0) ⊎ (from + length text.now < 2 ^ 32) }
+    requires each { AllByRecursion (IsTokenOf text.now) tokens.now }
+    ensures { IfOk result (λ v. v.items ≡ map (moved from) (spec.lexemes text.now tokens.entry.now)) }
 {
     let mut all = Vec::new(alloc);
     while let [token, rest @ ..] = tokens {
@@ -97,7 +104,7 @@ pub fn lexemes(alloc: Global, text: &[u8], mut tokens: &[Token]) -> Result<Vec<L
         let word = word(alloc, token.kind, bytes)?;
         all.push(Lexeme {
             word,
-            at: token.from,
+            at: from + token.from,
         })?;
         tokens = rest;
     }

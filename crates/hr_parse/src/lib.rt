@@ -21,4 +21,6 @@ pub use ast::{
     AggWord, Ast, ColumnAst, CondAst, DeleteAst, EntryAst, ExprAst, ExprKind, InsertAst, ItemAst,
     Items, JoinAst, LitAst, LiteralAst, NameAt, OperandAst, SelectAst, SetAst, TupleAst, UpdateAst,
 };
-pub use parsing::{ParseError, one_tree, parse};
+pub use parsing::{
+    ParseError, one_tree, parse, parse_tuple, parsed_by_the_grammar, parsed_tuple_by_the_grammar,
+};

@@ -28,7 +28,7 @@ impl<'a> Parser<'a> {
     }
 
     /// `statement = ( select | insert | update | delete ) [ ";" ]`, and then the end.
-    #[tactic(auto, unfolding(crate::specs::Readers::statement))]
+    #[tactic(auto, unfolding(crate::specs::Readers::statement, crate::specs::Readers::terminated))]
     pub fn statement(&mut self, depth: usize) -> Result<Ast, Stop>
         ensures { Reads (spec.statement depth self.old.rest.now) result self.new.rest.now }
     {

@@ -10,4 +10,6 @@ mod tokens;
 #[cfg(test)]
 mod trees;
 #[cfg(test)]
+mod tuples;
+#[cfg(test)]
 mod written;

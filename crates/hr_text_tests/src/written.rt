@@ -249,7 +249,7 @@ fn push_select(out: &mut String, select: &SelectAst) -> Result<(), AllocError> {
     push_groups(out, select.groups.as_slice())
 }
 
-fn push_tuples(out: &mut String, tuples: &[TupleAst]) -> Result<(), AllocError> {
+pub fn push_tuples(out: &mut String, tuples: &[TupleAst]) -> Result<(), AllocError> {
     for tuple in tuples {
         write!(out, " VALUES@{}", tuple.at)?;
         push_literals(out, tuple.values.as_slice())?;
