@@ -13,9 +13,9 @@ use Rattle.hr_parse.specs.declared.word.Lexeme.{Lexeme}
 use Rattle.hr_parse.specs.Words.{mark, same_mark}
 use Rattle.hr_parse.specs.Readers.{sees, sees_compare, between, among, nullity, range_or_list_of, range_or_list, check, test, neg, conj, conj_behind, cond, cond_behind}
 use Rattle.hr_parse.specs.Grammar.{Listed, IsName, IsColumn, IsLiteral, IsOperand, IsCheck, IsNeg, IsConj, AndMore, IsCond, OrMore}
-use Rattle.hr_parse.proofs.Rules.{Stops, Rule, Seq, Map, Done, IsMark, Ahead, Only, Compared, rule_iso, rule_seq, rule_map, rule_pure, rule_expect, rule_weak, rule_ahead, rule_only, rule_at_compare}
+use Rattle.hr_parse.proofs.Rules.{Stops, Rule, Seq, Map, Done, IsMark, Ahead, Only, Compared, rule_iso, rule_seq, rule_map, rule_pure, rule_expect, rule_weak, rule_ahead, rule_only, rule_at_compare, never, never_stops}
 use Rattle.hr_parse.proofs.Stops.{any, stops_here, stops_rest, firm_mark, firm_seq, firm_map}
-use Rattle.hr_parse.proofs.Operands.{Fits, never, never_stops, rule_literal, rule_operand, rule_listed, rule_refuse}
+use Rattle.hr_parse.proofs.Operands.{Fits, rule_literal, rule_operand, rule_listed, rule_refuse}
 
 abbrev dots : Lexeme → Bool
 dots = any ((m.Sign sign_of.Dot) ∷ [])

@@ -21,91 +21,12 @@ use Rattle.hr_parse.specs.Words.{is_mark, mark, named, number, text, same_mark}
 use Rattle.hr_parse.specs.Trees.{minus}
 use Rattle.hr_parse.specs.Readers.{Outcome, Reader, refuse, sees, optional, name_of, name, column, sees_name, literal_by, negative_word, constant_word, negative, constant, literal, operand_at, listed_behind, listed}
 use Rattle.hr_parse.specs.Grammar.{Optional, Listed, IsName, IsColumn, IsLiteral, IsOperand}
-use Rattle.hr_parse.proofs.Rules.{Stops, Got, Stuck, Whole, Rule, Seq, Map, Done, Ahead, Either, rule_iso, rule_seq, rule_map, rule_pure, rule_weak, rule_ahead, rule_at_name, ok_parts}
+use Rattle.hr_parse.proofs.Rules.{Stops, Rule, Seq, Map, Done, Ahead, Either, rule_iso, rule_seq, rule_map, rule_pure, rule_weak, rule_ahead, rule_at_name, never, never_stops, by_test, Tested, rule_test, rule_alike}
 use Rattle.hr_parse.proofs.Stops.{any, stops_here}
 
 -- a length that the number of turns allows
 abbrev pub Fits : ℕ → ℕ → ℕ → Type 0
 Fits k n length = 4 * length + k ≤ n
-
--- stopped by nothing
-abbrev pub never : Lexeme → Bool
-never x = false
-
-pub never_stops : (t : List Lexeme) → Stops never t
-never_stops [] = tt
-never_stops (x ∷ t) = refl
-
--- ---- one word by a test
-
-abbrev pub by_test : {A : Type 0} → (Lexeme → Option A) → Reader A
-by_test test [] = Err []
-by_test test (x ∷ rest) = elim (test x) [ Some a ↦ Ok (a, rest) | None ↦ Err (x ∷ rest) ]
-
-pub data Tested {A : Type 0} (test : Lexeme → Option A) : List Lexeme → A → Type 0 where
-  tested : (x : Lexeme) (a : A) → test x ≡ Some a → Tested test (x ∷ []) a
-
-module _ {A : Type 0} (test : Lexeme → Option A) (y : Lexeme) (b : A) (example : test y ≡ Some b) where
-  test_got : (x : Lexeme) (s t : List Lexeme) (a : A) (v : Option A) → test x ≡ v → by_test test (x ∷ s) ≡ Ok (a, t) → Got (by_test test) (Tested test) (x ∷ s) a t
-  test_got x s t a None h e = let z = rw (h, by_test) at e in absurd (cc)
-  test_got x s t a (Some d) h e =
-      let k = ok_parts d a s t (rw (h, by_test) at e) in
-      record {
-        front = x ∷ [];
-        split = ap (λ z. x ∷ z) k.1;
-        gives = Tested.tested x a (h ∙ ap Some k.0);
-        same = λ o v w q. rw (h ∙ ap Some k.0, by_test) refl;
-      }
-
-  test_all : (s t : List Lexeme) (a : A) → by_test test s ≡ Ok (a, t) → Got (by_test test) (Tested test) s a t
-  test_all [] t a e = absurd (cc)
-  test_all (x ∷ s) t a e = test_got x s t a (test x) refl e
-
-  test_refused : (x : Lexeme) (s t : List Lexeme) (v : Option A) → test x ≡ v → by_test test (x ∷ s) ≡ Err t → Stuck (by_test test) (Tested test) (x ∷ s) t
-  test_refused x s t (Some d) h e = let z = rw (h, by_test) at e in absurd (cc)
-  test_refused x s t None h e =
-      let z = rw (h, by_test) at e in
-      let q : (x ∷ s) ≡ t = cc in
-      record {
-        front = [];
-        split = q;
-        more = y ∷ [];
-        tree = b;
-        gives = Tested.tested y b example;
-        same = λ o v r d. let first : x ≡ o = cc in let again : by_test test (x ∷ r) ≡ Err (x ∷ r) = rw (h, by_test) refl in subst (λ z. by_test test (z ∷ r) ≡ Err (z ∷ r)) first again;
-      }
-
-  test_stuck : (s t : List Lexeme) → by_test test s ≡ Err t → Stuck (by_test test) (Tested test) s t
-  test_stuck [] t e = let q : [] ≡ t = cc in record { front = []; split = q; more = y ∷ []; tree = b; gives = Tested.tested y b example; same = λ o v w d. absurd (cc) }
-  test_stuck (x ∷ s) t e = test_refused x s t (test x) refl e
-
-test_whole : {A : Type 0} (test : Lexeme → Option A) (u : List Lexeme) (a : A) → Tested test u a → (t : List Lexeme) → by_test test (u ++ t) ≡ Ok (a, t)
-test_whole test u b (Tested.tested x a h) t = rw (h, by_test) refl
-
-pub rule_test : {A : Type 0} {c : Lexeme → Bool} {P : ℕ → Type 0} (test : Lexeme → Option A) (y : Lexeme) (b : A) → test y ≡ Some b → Rule (by_test test) (Tested test) c P
-rule_test test y b example = record {
-  words = y ∷ [];
-  tree = b;
-  some = Tested.tested y b example;
-  got = test_all test y b example;
-  stuck = test_stuck test y b example;
-  whole = λ u a l t st. inl (test_whole test u a l t);
-}
-
--- a reader that is the same function
-alike_read : {A : Type 0} {f : Reader A} {P : ℕ → Type 0} (g : Reader A) → ((s : List Lexeme) → g s ≡ f s) → (s : List Lexeme) (a : A) (t : List Lexeme) → Whole f P s a t → Whole g P s a t
-alike_read g e s a t (inl k) = inl (e s ∙ k)
-alike_read g e s a t (inr k) = inr (record { front = k.front; rest = k.rest; split = k.split; stops = e s ∙ k.stops; late = k.late })
-
-pub rule_alike : {A : Type 0} {f : Reader A} {L : List Lexeme → A → Type 0} {c : Lexeme → Bool} {P : ℕ → Type 0} (g : Reader A) → ((s : List Lexeme) → g s ≡ f s) → Rule f L c P → Rule g L c P
-rule_alike {f = f} {L = L} g e r = record {
-  words = r.words;
-  tree = r.tree;
-  some = r.some;
-  got = λ s t a h. let one : Got f L s a t = r.got s t a (sym (e s) ∙ h) in record { front = one.front; split = one.split; gives = one.gives; same = λ x v w d. e (one.front ++ (x ∷ w)) ∙ one.same x v w d };
-  stuck = λ s t h. let one : Stuck f L s t = r.stuck s t (sym (e s) ∙ h) in record { front = one.front; split = one.split; more = one.more; tree = one.tree; gives = one.gives; same = λ x v w d. e (one.front ++ (x ∷ w)) ∙ one.same x v w d };
-  whole = λ u a l t st. alike_read g e (u ++ t) a t (r.whole u a l t st);
-}
 
 -- ---- names
 

@@ -30,9 +30,9 @@ use Rattle.hr_parse.specs.declared.word.Lexeme.{Lexeme}
 use Rattle.hr_parse.specs.Words.{mark, compare, same_mark}
 use Rattle.hr_parse.specs.Readers.{Outcome, Reader, and_then, ◌>>=◌, pure, refuse, sees, sees_name, place, expect, ahead_at, comparison, is_equal, expect_equal, literal, listed, aggregated, counted, folded, item, items, alias, entry, joined, join, filter, groups, select, tuple, named_columns, insert, assignment, update, delete, command, terminated}
 use Rattle.hr_parse.specs.Grammar.{Optional, Listed, IsName, IsColumn, IsLiteral, IsCond, IsExpr, IsItem, AreItems, IsAlias, IsEntry, IsJoined, IsJoin, AreGroups, IsSelect, IsTuple, AreColumns, IsInsert, IsSet, IsUpdate, IsDelete, IsCommand, IsStatement}
-use Rattle.hr_parse.proofs.Rules.{Stops, Rule, Seq, Map, Done, IsMark, Ahead, Only, Either, rule_iso, rule_seq, rule_map, rule_pure, rule_expect, rule_weak, rule_ahead, rule_only, rule_at_name, is_the_compare}
+use Rattle.hr_parse.proofs.Rules.{Stops, Rule, Seq, Map, Done, IsMark, Ahead, Only, Either, rule_iso, rule_seq, rule_map, rule_pure, rule_expect, rule_weak, rule_ahead, rule_only, rule_at_name, is_the_compare, never, never_stops, by_test, Tested, rule_test, rule_alike, when}
 use Rattle.hr_parse.proofs.Stops.{any, nothing_more, stops_all, ending, stops_end, stops_here, stops_rest, firm_mark, firm_seq, firm_map, through_map, through_seq, through_optional, Through}
-use Rattle.hr_parse.proofs.Operands.{Fits, never, never_stops, by_test, Tested, rule_test, rule_alike, rule_name, rule_column, rule_literal, rule_optional, rule_listed}
+use Rattle.hr_parse.proofs.Operands.{Fits, rule_name, rule_column, rule_literal, rule_optional, rule_listed}
 use Rattle.hr_parse.proofs.Conditions.{rule_cond}
 use Rattle.hr_parse.proofs.Expressions.{rule_expr, expr_unseen}
 
@@ -457,15 +457,10 @@ rule_insert n = rule_iso to_insert of_insert
 
 -- ---- UPDATE
 
-equal_if : Bool → Option (Unit {0})
-equal_if true = Some tt
-equal_if false = None
-
 abbrev equal_test : Lexeme → Option (Unit {0})
-equal_test x = equal_if (is_equal (comparison x.word))
+equal_test x = when (is_equal (comparison x.word)) tt
 
-equal_alike_at : (b : Bool) (x : Lexeme) (s : List Lexeme) → (let r : Outcome (Unit {0}) = if b then Ok (tt, s) else Err (x ∷ s) in r) ≡ (elim (equal_if b) [ Some a ↦ Ok (a, s) | None ↦ Err (x ∷ s) ])
-unfolding equal_if
+equal_alike_at : (b : Bool) (x : Lexeme) (s : List Lexeme) → (let r : Outcome (Unit {0}) = if b then Ok (tt, s) else Err (x ∷ s) in r) ≡ (elim (let o : Option (Unit {0}) = when b tt in o) [ Some a ↦ Ok (a, s) | None ↦ Err (x ∷ s) ])
 equal_alike_at true x s = refl
 equal_alike_at false x s = refl
 
@@ -476,8 +471,7 @@ equal_alike (x ∷ s) = equal_alike_at (is_equal (comparison x.word)) x s
 pub data IsEqual : List Lexeme → Unit {0} → Type 0 where
   equal : (p : ℕ) → IsEqual (compare op.Eq p ∷ []) tt
 
-equal_op : (o : Option Op) (a : Unit {0}) → equal_if (is_equal o) ≡ Some a → o ≡ Some op.Eq
-unfolding equal_if
+equal_op : (o : Option Op) (a : Unit {0}) → when (is_equal o) tt ≡ Some a → o ≡ Some op.Eq
 equal_op (Some op.Eq) a e = refl
 equal_op (Some op.Ne) a e = absurd (cc)
 equal_op (Some op.Lt) a e = absurd (cc)
@@ -490,11 +484,9 @@ to_equal : (u : List Lexeme) (a : Unit {0}) → Tested equal_test u a → IsEqua
 to_equal u b (Tested.tested x a e) = subst (λ z. IsEqual (z ∷ []) a) (sym (is_the_compare op.Eq x (equal_op (comparison x.word) a e))) (IsEqual.equal x.at)
 
 of_equal : (u : List Lexeme) (a : Unit {0}) → IsEqual u a → Tested equal_test u a
-unfolding equal_if
 of_equal u a (IsEqual.equal p) = Tested.tested (compare op.Eq p) tt refl
 
 rule_equal : (n : ℕ) → Rule expect_equal IsEqual never (Fits 6 n)
-unfolding equal_if
 rule_equal n = rule_alike expect_equal equal_alike (rule_iso to_equal of_equal (rule_test equal_test (compare op.Eq 0) tt refl))
 
 abbrev Assignment : List Lexeme → SetAst → Type 0
