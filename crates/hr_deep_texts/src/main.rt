@@ -10,7 +10,8 @@ use std::alloc::{AllocError, Global};
 use std::io;
 
 /// A text that repeats a part before its middle, and another behind it.
-struct Deep {
+#[derive(Clone, Copy)]
+struct Repeated {
     name: &'static str,
     front: &'static str,
     before: &'static str,
@@ -20,15 +21,15 @@ struct Deep {
     times: u32,
 }
 
-const fn deep(
+const fn parts(
     name: &'static str,
     front: &'static str,
     before: &'static str,
     middle: &'static str,
     behind: &'static str,
     times: u32,
-) -> Deep {
-    Deep {
+) -> Repeated {
+    Repeated {
         name,
         front,
         before,
@@ -43,19 +44,19 @@ const CONDITION: &str = "DELETE FROM t WHERE ";
 
 const EXPRESSION: &str = "UPDATE t SET a=";
 
-fn repeated(text: &mut String, part: &str, times: u32) -> Result<(), AllocError> {
+fn push_times(text: &mut String, part: &str, times: u32) -> Result<(), AllocError> {
     for _ in 0..times {
         text.push_str(part)?;
     }
     Ok(())
 }
 
-fn text_of(alloc: Global, deep: &Deep) -> Result<String, AllocError> {
-    let mut text = String::from_str(alloc, deep.front)?;
-    repeated(&mut text, deep.before, deep.times)?;
-    text.push_str(deep.middle)?;
-    repeated(&mut text, deep.behind, deep.times)?;
-    text.push_str(deep.end)?;
+fn text_of(alloc: Global, repeated: &Repeated) -> Result<String, AllocError> {
+    let mut text = String::from_str(alloc, repeated.front)?;
+    push_times(&mut text, repeated.before, repeated.times)?;
+    text.push_str(repeated.middle)?;
+    push_times(&mut text, repeated.behind, repeated.times)?;
+    text.push_str(repeated.end)?;
     Ok(text)
 }
 
@@ -68,32 +69,46 @@ fn printed_len(alloc: Global, text: &str) -> Result<usize, ParseError> {
 fn main(rt: HostRuntime) -> io::Result<()> {
     let alloc = rt.alloc();
     let texts = [
-        deep("conditions", CONDITION, "(", "1=1", ")", 500),
-        deep("conditions, unclosed", CONDITION, "(", "", "", 1004),
-        deep("negations", CONDITION, "NOT ", "1=1", "", 250),
-        deep("negations of nothing", CONDITION, "NOT ", "", "", 251),
-        deep("negated conditions", CONDITION, "NOT(", "1=1", ")", 200),
-        deep("negated conditions, unclosed", CONDITION, "NOT(", "", "", 251),
-        deep("alternatives", CONDITION, "", "1=1", "OR 1=1", 166),
-        deep("conjunctions", CONDITION, "", "1=1", "AND 1=1", 143),
-        deep("nested alternatives", CONDITION, "1=1OR(", "1=1", ")", 143),
-        deep("expressions", EXPRESSION, "(", "1", ")", 504),
-        deep("expressions, unclosed", EXPRESSION, "(", "", "", 1009),
-        deep("sums", EXPRESSION, "", "1", "+1", 504),
-        deep("products", EXPRESSION, "", "1", "*1", 504),
-        deep("nested sums", EXPRESSION, "1+(", "1", ")", 252),
-        deep("grouped columns", "SELECT *FROM t GROUP BY a", "", "", ",a", 499),
-        deep("tuples", "INSERT INTO t VALUES(1)", "", "", ",(1)", 250),
-        Deep {
+        parts("conditions", CONDITION, "(", "1=1", ")", 500),
+        parts("conditions, unclosed", CONDITION, "(", "", "", 1004),
+        parts("negations", CONDITION, "NOT ", "1=1", "", 250),
+        parts("negations of nothing", CONDITION, "NOT ", "", "", 251),
+        parts("negated conditions", CONDITION, "NOT(", "1=1", ")", 200),
+        parts(
+            "negated conditions, unclosed",
+            CONDITION,
+            "NOT(",
+            "",
+            "",
+            251,
+        ),
+        parts("alternatives", CONDITION, "", "1=1", "OR 1=1", 166),
+        parts("conjunctions", CONDITION, "", "1=1", "AND 1=1", 143),
+        parts("nested alternatives", CONDITION, "1=1OR(", "1=1", ")", 143),
+        parts("expressions", EXPRESSION, "(", "1", ")", 504),
+        parts("expressions, unclosed", EXPRESSION, "(", "", "", 1009),
+        parts("sums", EXPRESSION, "", "1", "+1", 504),
+        parts("products", EXPRESSION, "", "1", "*1", 504),
+        parts("nested sums", EXPRESSION, "1+(", "1", ")", 252),
+        parts(
+            "grouped columns",
+            "SELECT *FROM t GROUP BY a",
+            "",
+            "",
+            ",a",
+            499,
+        ),
+        parts("tuples", "INSERT INTO t VALUES(1)", "", "", ",(1)", 250),
+        Repeated {
             end: ")",
-            ..deep("literals", "INSERT INTO t VALUES(1", "", "", ",1", 500)
+            ..parts("literals", "INSERT INTO t VALUES(1", "", "", ",1", 500)
         },
     ];
-    for deep in &texts {
-        let text = text_of(alloc, deep)?;
+    for repeated in &texts {
+        let text = text_of(alloc, repeated)?;
         match printed_len(alloc, text.as_str()) {
-            Ok(len) => println!(rt; "{}: {} bytes, printed {len}", deep.name, text.len())?,
-            Err(error) => println!(rt; "{}: {} bytes, {error:?}", deep.name, text.len())?,
+            Ok(len) => println!(rt; "{}: {} bytes, printed {len}", repeated.name, text.len())?,
+            Err(error) => println!(rt; "{}: {} bytes, {error:?}", repeated.name, text.len())?,
         }
     }
     Ok(())

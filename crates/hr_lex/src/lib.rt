@@ -14,4 +14,3 @@ mod token;
 
 pub use reading::{Reading, read, tokens};
 pub use token::{Keyword, LexError, Token, TokenKind};
-

@@ -5,4 +5,3 @@ mod parts;
 mod printing;
 
 pub use printing::print;
-

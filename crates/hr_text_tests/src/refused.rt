@@ -1,7 +1,7 @@
 //! Texts that are no statement, and the place that is told of each.
 
-use hr_parse::{Ast, ParseError, parse};
 use hr_lex::LexError;
+use hr_parse::{Ast, ParseError, parse};
 use std::test::Fail;
 
 /// Texts whose first unexpected token, or end, stands at this place.

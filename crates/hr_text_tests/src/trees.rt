@@ -7,10 +7,7 @@ use std::test::Fail;
 
 /// Statements, and the trees beside them.
 const TREES: [(&str, &str); 30] = [
-    (
-        "delete from T;",
-        "DELETE t@12",
-    ),
+    ("delete from T;", "DELETE t@12"),
     (
         "DELETE FROM t WHERE a = 1",
         "DELETE t@12 WHERE (= a@20 1@24)",
@@ -67,26 +64,17 @@ const TREES: [(&str, &str); 30] = [
         "DELETE FROM t WHERE NOT a NOT IN (-0)",
         "DELETE t@12 WHERE (NOT (NOT IN a@24 0@34))",
     ),
-    (
-        "INSERT INTO t VALUES (1)",
-        "INSERT t@12 () VALUES@21 1@22",
-    ),
+    ("INSERT INTO t VALUES (1)", "INSERT t@12 () VALUES@21 1@22"),
     (
         "insert into T(a , B)values(1,'X'),( - 9223372036854775808 ,null)",
         "INSERT t@12 ( a@14 b@18) VALUES@26 1@27 'X'@29 VALUES@34 -9223372036854775808@36 NULL@59",
     ),
-    (
-        "UPDATE t SET a = 1",
-        "UPDATE t@7 a@13=[17 1@17]",
-    ),
+    ("UPDATE t SET a = 1", "UPDATE t@7 a@13=[17 1@17]"),
     (
         "UPDATE t SET a = (a + 1) * 2, b = NULL WHERE a = 5;",
         "UPDATE t@7 a@13=[17 * [17 + [18 a@18] [22 1@22]] [27 2@27]] b@30=[34 NULL@34] WHERE (= a@45 5@49)",
     ),
-    (
-        "SELECT * FROM t",
-        "SELECT *@7 FROM t@14",
-    ),
+    ("SELECT * FROM t", "SELECT *@7 FROM t@14"),
     (
         "SELECT a - b - c FROM t AS x",
         "SELECT [7 - [7 - [7 a@7] [11 b@11]] [15 c@15]] FROM t@22 AS x@27",

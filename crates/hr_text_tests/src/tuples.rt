@@ -9,10 +9,22 @@ use std::test::Fail;
 /// Texts, the place where a tuple begins in each, and that tuple.
 const TUPLES: [(&str, usize, &str); 5] = [
     ("(1)", 0, " VALUES@0 1@1"),
-    ("row t (1, 'a''b', NULL)", 6, " VALUES@6 1@7 'a'b'@10 NULL@18"),
+    (
+        "row t (1, 'a''b', NULL)",
+        6,
+        " VALUES@6 1@7 'a'b'@10 NULL@18",
+    ),
     ("row t ( - 5,x')  (7)", 17, " VALUES@17 7@18"),
-    ("row t(\t9223372036854775807 )", 5, " VALUES@5 9223372036854775807@7"),
-    ("#  (-9223372036854775808)", 1, " VALUES@3 -9223372036854775808@4"),
+    (
+        "row t(\t9223372036854775807 )",
+        5,
+        " VALUES@5 9223372036854775807@7",
+    ),
+    (
+        "#  (-9223372036854775808)",
+        1,
+        " VALUES@3 -9223372036854775808@4",
+    ),
 ];
 
 /// Texts, a place in each, and why the text is no tuple from there on.
@@ -26,7 +38,11 @@ const REFUSED: [(&str, usize, ParseError); 10] = [
     ("row t (1 ", 6, ParseError::Unexpected(9)),
     ("row t (1, 'x", 6, ParseError::Lex(LexError::OpenText(10))),
     ("row t (1, # 2", 6, ParseError::Lex(LexError::BadChar(10))),
-    ("row t (9223372036854775809)", 6, ParseError::Lex(LexError::NumberTooLarge(7))),
+    (
+        "row t (9223372036854775809)",
+        6,
+        ParseError::Lex(LexError::NumberTooLarge(7)),
+    ),
 ];
 
 fn tuple_at(alloc: Global, text: &str, from: usize) -> Result<TupleAst, ParseError> {
@@ -66,7 +82,11 @@ fn tuples_within_texts(rt: HostRuntime) -> Result<(), Fail> {
 #[test]
 fn tuples_refused(rt: HostRuntime) -> Result<(), Fail> {
     for (text, from, error) in REFUSED {
-        assert_eq!(rt; tuple_at(rt.alloc(), text, from).err(), Some(error), "{text}");
+        assert_eq!(rt;
+            tuple_at(rt.alloc(), text, from).err(),
+            Some(error),
+            "{text}"
+        );
     }
     Ok(())
 }
