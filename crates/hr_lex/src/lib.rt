@@ -15,6 +15,3 @@ pub mod worked;
 
 pub use reading::{Reading, read, tokens};
 pub use token::{Keyword, LexError, Token, TokenKind};
-
-#[cfg(test)]
-mod tests;

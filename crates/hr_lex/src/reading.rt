@@ -64,7 +64,7 @@ fn number_at(at: u32, bytes: &[u8]) -> Result<Token, LexError>
     }
 }
 
-/// The text whose opening quote stands at `at`, before `bytes`.
+/// The quoted text whose opening quote stands at `at`, right before `bytes`.
 fn text_at(at: u32, bytes: &[u8]) -> Result<Token, LexError>
     requires { at + length bytes.now < MAX_SQL_BYTES }
     ensures value { result ≡ spec.quoted at (closing false (at + 1) bytes.now) }
@@ -110,7 +110,7 @@ fn sign_at(at: u32, bytes: &[u8]) -> Result<Token, LexError>
     }
 }
 
-/// The token that begins with `first`, which stands at `at` before `rest`.
+/// The token at the front of `bytes`, which stand at `at`.
 #[tactic(auto, unfolding(crate::specs::Tokens::token_at))]
 fn token_at(at: u32, bytes: &[u8]) -> Result<Token, LexError>
     requires some { 0 < length bytes.now }

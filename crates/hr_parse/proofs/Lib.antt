@@ -8,4 +8,5 @@ pub mod Statements
 pub mod Whole
 pub mod Names
 pub mod Told
+pub mod Texts
 pub mod Worked

@@ -12,98 +12,21 @@ use Rattle.hr_parse.specs.declared.ast.OperandAst.{OperandAst}
 use Rattle.hr_parse.specs.declared.ast.OperandAst.TheVariants as operand_of
 use Rattle.hr_parse.specs.declared.word.Mark.{Mark}
 use Rattle.hr_parse.specs.declared.word.Mark.TheVariants as m
+use Rattle.hr_lex.specs.declared.token.Keyword.TheVariants as kw
+use Rattle.hr_parse.specs.declared.word.Sign.TheVariants as sign_of
 use Rattle.hr_parse.specs.declared.word.Word.{Word}
 use Rattle.hr_parse.specs.declared.word.Word.TheVariants as w
 use Rattle.hr_parse.specs.declared.word.Lexeme.{Lexeme}
 use Rattle.hr_parse.specs.Words.{is_mark, mark, named, number, text, same_mark}
 use Rattle.hr_parse.specs.Trees.{minus}
-use Rattle.hr_parse.specs.Reading.{Outcome, Reader, refuse, sees, optional, name_of, name, column, sees_name, literal_by, negative_word, constant_word, negative, constant, literal, operand_at, listed_behind, listed}
+use Rattle.hr_parse.specs.Readers.{Outcome, Reader, refuse, sees, optional, name_of, name, column, sees_name, literal_by, negative_word, constant_word, negative, constant, literal, operand_at, listed_behind, listed}
 use Rattle.hr_parse.specs.Grammar.{Optional, Listed, IsName, IsColumn, IsLiteral, IsOperand}
-use Rattle.hr_parse.proofs.Rules.{Stops, Got, Stuck, Whole, Rule, Seq, Map, Done, Ahead, Either, rule_iso, rule_seq, rule_map, rule_pure, rule_weak, rule_ahead, rule_at_name, ok_parts}
+use Rattle.hr_parse.proofs.Rules.{Stops, Rule, Seq, Map, Done, Ahead, Either, rule_iso, rule_seq, rule_map, rule_pure, rule_weak, rule_ahead, rule_at_name, never, never_stops, by_test, Tested, rule_test, rule_alike}
 use Rattle.hr_parse.proofs.Stops.{any, stops_here}
 
 -- a length that the number of turns allows
 abbrev pub Fits : ℕ → ℕ → ℕ → Type 0
 Fits k n length = 4 * length + k ≤ n
-
--- stopped by nothing
-abbrev pub never : Lexeme → Bool
-never x = false
-
-pub never_stops : (t : List Lexeme) → Stops never t
-never_stops [] = tt
-never_stops (x ∷ t) = refl
-
--- ---- one word by a test
-
-abbrev pub by_test : {A : Type 0} → (Lexeme → Option A) → Reader A
-by_test test [] = Err []
-by_test test (x ∷ rest) = elim (test x) [ Some a ↦ Ok (a, rest) | None ↦ Err (x ∷ rest) ]
-
-pub data Tested {A : Type 0} (test : Lexeme → Option A) : List Lexeme → A → Type 0 where
-  tested : (x : Lexeme) (a : A) → test x ≡ Some a → Tested test (x ∷ []) a
-
-module _ {A : Type 0} (test : Lexeme → Option A) (y : Lexeme) (b : A) (example : test y ≡ Some b) where
-  test_got : (x : Lexeme) (s t : List Lexeme) (a : A) (v : Option A) → test x ≡ v → by_test test (x ∷ s) ≡ Ok (a, t) → Got (by_test test) (Tested test) (x ∷ s) a t
-  test_got x s t a None h e = let z = rw (h, by_test) at e in absurd (cc)
-  test_got x s t a (Some d) h e =
-      let k = ok_parts d a s t (rw (h, by_test) at e) in
-      record {
-        front = x ∷ [];
-        split = ap (λ z. x ∷ z) k.1;
-        gives = Tested.tested x a (h ∙ ap Some k.0);
-        same = λ o v w q. rw (h ∙ ap Some k.0, by_test) refl;
-      }
-
-  test_all : (s t : List Lexeme) (a : A) → by_test test s ≡ Ok (a, t) → Got (by_test test) (Tested test) s a t
-  test_all [] t a e = absurd (cc)
-  test_all (x ∷ s) t a e = test_got x s t a (test x) refl e
-
-  test_refused : (x : Lexeme) (s t : List Lexeme) (v : Option A) → test x ≡ v → by_test test (x ∷ s) ≡ Err t → Stuck (by_test test) (Tested test) (x ∷ s) t
-  test_refused x s t (Some d) h e = let z = rw (h, by_test) at e in absurd (cc)
-  test_refused x s t None h e =
-      let z = rw (h, by_test) at e in
-      let q : (x ∷ s) ≡ t = cc in
-      record {
-        front = [];
-        split = q;
-        more = y ∷ [];
-        tree = b;
-        gives = Tested.tested y b example;
-        same = λ o v r d. let first : x ≡ o = cc in let again : by_test test (x ∷ r) ≡ Err (x ∷ r) = rw (h, by_test) refl in subst (λ z. by_test test (z ∷ r) ≡ Err (z ∷ r)) first again;
-      }
-
-  test_stuck : (s t : List Lexeme) → by_test test s ≡ Err t → Stuck (by_test test) (Tested test) s t
-  test_stuck [] t e = let q : [] ≡ t = cc in record { front = []; split = q; more = y ∷ []; tree = b; gives = Tested.tested y b example; same = λ o v w d. absurd (cc) }
-  test_stuck (x ∷ s) t e = test_refused x s t (test x) refl e
-
-test_whole : {A : Type 0} (test : Lexeme → Option A) (u : List Lexeme) (a : A) → Tested test u a → (t : List Lexeme) → by_test test (u ++ t) ≡ Ok (a, t)
-test_whole test u b (Tested.tested x a h) t = rw (h, by_test) refl
-
-pub rule_test : {A : Type 0} {c : Lexeme → Bool} {P : ℕ → Type 0} (test : Lexeme → Option A) (y : Lexeme) (b : A) → test y ≡ Some b → Rule (by_test test) (Tested test) c P
-rule_test test y b example = record {
-  words = y ∷ [];
-  tree = b;
-  some = Tested.tested y b example;
-  got = test_all test y b example;
-  stuck = test_stuck test y b example;
-  whole = λ u a l t st. inl (test_whole test u a l t);
-}
-
--- a reader that is the same function
-alike_read : {A : Type 0} {f : Reader A} {P : ℕ → Type 0} (g : Reader A) → ((s : List Lexeme) → g s ≡ f s) → (s : List Lexeme) (a : A) (t : List Lexeme) → Whole f P s a t → Whole g P s a t
-alike_read g e s a t (inl k) = inl (e s ∙ k)
-alike_read g e s a t (inr k) = inr (record { front = k.front; rest = k.rest; split = k.split; stops = e s ∙ k.stops; late = k.late })
-
-pub rule_alike : {A : Type 0} {f : Reader A} {L : List Lexeme → A → Type 0} {c : Lexeme → Bool} {P : ℕ → Type 0} (g : Reader A) → ((s : List Lexeme) → g s ≡ f s) → Rule f L c P → Rule g L c P
-rule_alike {f = f} {L = L} g e r = record {
-  words = r.words;
-  tree = r.tree;
-  some = r.some;
-  got = λ s t a h. let one : Got f L s a t = r.got s t a (sym (e s) ∙ h) in record { front = one.front; split = one.split; gives = one.gives; same = λ x v w d. e (one.front ++ (x ∷ w)) ∙ one.same x v w d };
-  stuck = λ s t h. let one : Stuck f L s t = r.stuck s t (sym (e s) ∙ h) in record { front = one.front; split = one.split; more = one.more; tree = one.tree; gives = one.gives; same = λ x v w d. e (one.front ++ (x ∷ w)) ∙ one.same x v w d };
-  whole = λ u a l t st. alike_read g e (u ++ t) a t (r.whole u a l t st);
-}
 
 -- ---- names
 
@@ -173,10 +96,10 @@ rule_optional {L = L} {Q = Q} k d P r shorter weak unseen =
 -- ---- columns
 
 abbrev dots : Lexeme → Bool
-dots = any (m.Dot ∷ [])
+dots = any ((m.Sign sign_of.Dot) ∷ [])
 
 abbrev Dotted : List Lexeme → ColumnAst → Type 0
-Dotted = Seq IsName (λ first. Map (λ second. record { first = first; second = second }) (Optional m.Dot IsName))
+Dotted = Seq IsName (λ first. Map (λ second. record { first = first; second = second }) (Optional (m.Sign sign_of.Dot) IsName))
 
 to_column : (u : List Lexeme) (a : ColumnAst) → Dotted u a → IsColumn u a
 to_column u a (Seq.seq n (Map.map o)) = IsColumn.column n o
@@ -184,12 +107,12 @@ to_column u a (Seq.seq n (Map.map o)) = IsColumn.column n o
 of_column : (u : List Lexeme) (a : ColumnAst) → IsColumn u a → Dotted u a
 of_column u a (IsColumn.column n o) = Seq.seq n (Map.map o)
 
-pub rule_column : (n : ℕ) → Rule column IsColumn (any (m.Dot ∷ [])) (Fits 3 n)
+pub rule_column : (n : ℕ) → Rule column IsColumn (any ((m.Sign sign_of.Dot) ∷ [])) (Fits 3 n)
 unfolding column
 rule_column n = rule_iso to_column of_column
     (rule_seq (Fits 3 n) (rule_name {c = never} {P = Fits 3 n})
     (λ first. rule_map (λ second. record { first = first; second = second })
-    (rule_optional m.Dot dots (Fits 3 n) (rule_name {c = never} {P = Fits 3 n}) (λ i h. omega (arith, h)) (λ t st. never_stops t) (stops_here m.Dot [])))
+    (rule_optional (m.Sign sign_of.Dot) dots (Fits 3 n) (rule_name {c = never} {P = Fits 3 n}) (λ i h. omega (arith, h)) (λ t st. never_stops t) (stops_here (m.Sign sign_of.Dot) [])))
     (λ i j h. (omega (arith, h), omega (arith, h)))
     (λ a v b t l st. never_stops (v ++ t)))
 
@@ -216,11 +139,11 @@ lit_if : (b : Bool) (z : ℤ) → option_map lit.Int (if b then Some z else None
 lit_if true z = refl
 lit_if false z = refl
 
-to_negative : (v : Word) (p q : ℕ) (a : LiteralAst) → option_map (λ v. record { value = v; at = p }) (negative_word v) ≡ Some a → IsLiteral (mark m.Minus p ∷ record { word = v; at = q } ∷ []) a
+to_negative : (v : Word) (p q : ℕ) (a : LiteralAst) → option_map (λ v. record { value = v; at = p }) (negative_word v) ≡ Some a → IsLiteral (mark (m.Sign sign_of.Minus) p ∷ record { word = v; at = q } ∷ []) a
 to_negative (w.Number n) p q a e =
     let k = within (nat_le n (2 ^ 63)) (lit.Int (minus n)) p a (rw (lit_if (nat_le n (2 ^ 63)) (minus n)) at e) in
     let small : n ≤ 2 ^ 63 = grind (arith, nat_tests, k.0) in
-    subst (λ z. IsLiteral (mark m.Minus p ∷ number n q ∷ []) z) k.1 (IsLiteral.negative n p q small)
+    subst (λ z. IsLiteral (mark (m.Sign sign_of.Minus) p ∷ number n q ∷ []) z) k.1 (IsLiteral.negative n p q small)
 to_negative (w.Name n) p q a e = absurd (cc)
 to_negative (w.Fixed k) p q a e = absurd (cc)
 to_negative (w.Text t) p q a e = absurd (cc)
@@ -246,7 +169,7 @@ abbrev Constant : List Lexeme → LiteralAst → Type 0
 Constant = Tested (placed_by same_place constant_word)
 
 abbrev Literal : List Lexeme → LiteralAst → Type 0
-Literal = Ahead m.Minus Negative (Ahead m.Null (λ p. Done (record { value = lit.Null; at = p })) Constant)
+Literal = Ahead (m.Sign sign_of.Minus) Negative (Ahead (m.Keyword kw.Null) (λ p. Done (record { value = lit.Null; at = p })) Constant)
 
 to_literal : (u : List Lexeme) (a : LiteralAst) → Literal u a → IsLiteral u a
 to_literal u b (Ahead.this p (Tested.tested x a e)) = to_negative x.word p x.at a e
@@ -273,10 +196,10 @@ constant_unmarked k (w.Compare o) p a e = absurd (cc)
 constant_unseen : (k : Mark) (u : List Lexeme) (a : LiteralAst) (t : List Lexeme) → Constant u a → sees k (u ++ t) ≡ false
 constant_unseen k u b t (Tested.tested x a e) = constant_unmarked k x.word x.at a e
 
-null_unsigned : (u : List Lexeme) (a : LiteralAst) (t : List Lexeme) → Ahead m.Null (λ p. Done (record { value = lit.Null; at = p })) Constant u a → sees m.Minus (u ++ t) ≡ false
+null_unsigned : (u : List Lexeme) (a : LiteralAst) (t : List Lexeme) → Ahead (m.Keyword kw.Null) (λ p. Done (record { value = lit.Null; at = p })) Constant u a → sees (m.Sign sign_of.Minus) (u ++ t) ≡ false
 unfolding same_mark
 null_unsigned u a t (Ahead.this p l) = refl
-null_unsigned u a t (Ahead.other l) = constant_unseen m.Minus u a t l
+null_unsigned u a t (Ahead.other l) = constant_unseen (m.Sign sign_of.Minus) u a t l
 
 rule_negative : (p n : ℕ) → Rule (negative p) (Negative p) never (Fits 3 n)
 unfolding negative
@@ -293,7 +216,7 @@ unfolding literal
 rule_literal n = rule_iso to_literal of_literal
     (rule_ahead (λ p. rule_negative p n)
     (rule_ahead (λ p. rule_pure {c = never} {P = Fits 3 n} (record { value = lit.Null; at = p })) (rule_constant n) (λ i h. omega (arith, h))
-    (λ u a t l st. constant_unseen m.Null u a t l))
+    (λ u a t l st. constant_unseen (m.Keyword kw.Null) u a t l))
     (λ i h. omega (arith, h)) (λ u a t l st. null_unsigned u a t l))
 
 -- ---- operands
@@ -318,7 +241,7 @@ literal_unnamed u a t (Map.map (IsLiteral.negative n p q h)) = refl
 literal_unnamed u a t (Map.map (IsLiteral.quoted s p)) = refl
 literal_unnamed u a t (Map.map (IsLiteral.null p)) = refl
 
-pub rule_operand : (n : ℕ) → Rule operand_at IsOperand (any (m.Dot ∷ [])) (Fits 3 n)
+pub rule_operand : (n : ℕ) → Rule operand_at IsOperand (any ((m.Sign sign_of.Dot) ∷ [])) (Fits 3 n)
 unfolding operand_at
 rule_operand n = rule_iso to_operand of_operand
     (rule_at_name (rule_map operand_of.Column (rule_column n))
@@ -341,11 +264,11 @@ data Behind {A : Type 0} (L : List Lexeme → A → Type 0) (front : List A) : L
   behind : {u : List Lexeme} {all : List A} → Listed L u all → Behind L front u (front ++ all)
 
 abbrev OneMore : {A : Type 0} → (List Lexeme → A → Type 0) → List A → List Lexeme → List A → Type 0
-OneMore L front = Seq L (λ a. Ahead m.Comma (λ _. Behind L (front ++ a ∷ [])) (Done (front ++ a ∷ [])))
+OneMore L front = Seq L (λ a. Ahead (m.Sign sign_of.Comma) (λ _. Behind L (front ++ a ∷ [])) (Done (front ++ a ∷ [])))
 
 to_behind : {A : Type 0} (L : List Lexeme → A → Type 0) (front : List A) (u : List Lexeme) (all : List A) → OneMore L front u all → Behind L front u all
 to_behind L front w all (Seq.seq {u} {a} l (Ahead.this p (Behind.behind {u = v} {all = others} ls))) =
-    subst (λ z. Behind L front (u ++ (mark m.Comma p ∷ v)) z) (sym (append_assoc front (a ∷ []) others)) (Behind.behind (Listed.more p l ls))
+    subst (λ z. Behind L front (u ++ (mark (m.Sign sign_of.Comma) p ∷ v)) z) (sym (append_assoc front (a ∷ []) others)) (Behind.behind (Listed.more p l ls))
 to_behind L front w all (Seq.seq {u} {a} l (Ahead.other Done.done)) = subst (λ z. Behind L front z (front ++ a ∷ [])) (sym (append-nil u)) (Behind.behind (Listed.one l))
 
 of_behind : {A : Type 0} (L : List Lexeme → A → Type 0) (front : List A) (u : List Lexeme) (all : List A) → Behind L front u all → OneMore L front u all
@@ -353,15 +276,15 @@ of_behind L front w all (Behind.behind (Listed.one {u} {a} l)) =
     let k : OneMore L front (u ++ []) (front ++ a ∷ []) = Seq.seq l (Ahead.other Done.done) in
     subst (λ z. OneMore L front z (front ++ a ∷ [])) (append-nil u) k
 of_behind L front w all (Behind.behind (Listed.more p {u} {v} {a} {others} l ls)) =
-    let k : OneMore L front (u ++ (mark m.Comma p ∷ v)) ((front ++ a ∷ []) ++ others) = Seq.seq l (Ahead.this p (Behind.behind ls)) in
-    subst (λ z. OneMore L front (u ++ (mark m.Comma p ∷ v)) z) (append_assoc front (a ∷ []) others) k
+    let k : OneMore L front (u ++ (mark (m.Sign sign_of.Comma) p ∷ v)) ((front ++ a ∷ []) ++ others) = Seq.seq l (Ahead.this p (Behind.behind ls)) in
+    subst (λ z. OneMore L front (u ++ (mark (m.Sign sign_of.Comma) p ∷ v)) z) (append_assoc front (a ∷ []) others) k
 
 abbrev Turns : ℕ → ℕ → ℕ → ℕ → Type 0
 Turns k n most i = Fits k n i × (i < most)
 
 module _ {A : Type 0} (f : Reader A) (L : List Lexeme → A → Type 0) (c d : Lexeme → Bool) (k n : ℕ) (some : 0 < k) (r : Rule f L c (Fits k n))
-    (weak : (t : List Lexeme) → Stops d t → Stops c t) (unseen : (t : List Lexeme) → Stops d t → sees m.Comma t ≡ false) (comma : (p : ℕ) → c (mark m.Comma p) ≡ false) where
-  goes_on : (front : List A) (v : List Lexeme) (b : List A) (t : List Lexeme) → Ahead m.Comma (λ _. Behind L front) (Done front) v b → Stops d t → Stops c (v ++ t)
+    (weak : (t : List Lexeme) → Stops d t → Stops c t) (unseen : (t : List Lexeme) → Stops d t → sees (m.Sign sign_of.Comma) t ≡ false) (comma : (p : ℕ) → c (mark (m.Sign sign_of.Comma) p) ≡ false) where
+  goes_on : (front : List A) (v : List Lexeme) (b : List A) (t : List Lexeme) → Ahead (m.Sign sign_of.Comma) (λ _. Behind L front) (Done front) v b → Stops d t → Stops c (v ++ t)
   goes_on front v b t (Ahead.this p l) st = comma p
   goes_on front v b t (Ahead.other Done.done) st = weak t st
 
@@ -371,7 +294,7 @@ module _ {A : Type 0} (f : Reader A) (L : List Lexeme → A → Type 0) (c d : L
   listed_all (suc most) front = rule_iso (to_behind L front) (of_behind L front)
       (rule_seq (Turns k n (suc most)) r
       (λ a. rule_ahead {P = Turns k n (suc most)} (λ _. listed_all most (front ++ a ∷ [])) (rule_pure (front ++ a ∷ [])) (λ i h. (omega (arith, h.0), omega (arith, h.1)))
-      (done_unseen m.Comma d (front ++ a ∷ []) unseen))
+      (done_unseen (m.Sign sign_of.Comma) d (front ++ a ∷ []) unseen))
       (λ i j h. (omega (arith, h.0), (omega (arith, h.0), omega (arith, h.1))))
       (λ a v b t l st. goes_on (front ++ a ∷ []) v b t l st))
 
@@ -382,7 +305,7 @@ of_listed : {A : Type 0} (L : List Lexeme → A → Type 0) (u : List Lexeme) (a
 of_listed L u all ls = Behind.behind ls
 
 pub rule_listed : {A : Type 0} {f : Reader A} {L : List Lexeme → A → Type 0} {c : Lexeme → Bool} (d : Lexeme → Bool) (k n : ℕ) → 0 < k → Rule f L c (Fits k n)
-    → ((t : List Lexeme) → Stops d t → Stops c t) → ((t : List Lexeme) → Stops d t → sees m.Comma t ≡ false) → ((p : ℕ) → c (mark m.Comma p) ≡ false)
+    → ((t : List Lexeme) → Stops d t → Stops c t) → ((t : List Lexeme) → Stops d t → sees (m.Sign sign_of.Comma) t ≡ false) → ((p : ℕ) → c (mark (m.Sign sign_of.Comma) p) ≡ false)
     → Rule (listed f n) (Listed L) d (Fits k n)
 rule_listed {f = f} {L = L} {c = c} d k n some r weak unseen comma = rule_iso (to_listed L) (of_listed L)
     (rule_weak d (Fits k n) (λ t st. st) (λ i h. (h, omega (arith, h, some))) (listed_all f L c d k n some r weak unseen comma n []))

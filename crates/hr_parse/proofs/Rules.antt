@@ -1,13 +1,14 @@
 -- What holds of a reader of a rule, and how it is put together from what holds of the rule's parts.
-use Rattle.std.proofs.Common.{◌≡◌, ◌⊎◌, inl, inr, ℕ, suc, ◌+◌, Bool, true, false, List, [], ◌∷◌, ◌++◌, length, Option, Some, None, Ok, Err, ap, subst, refl, sym, ◌∙◌, arith, append_assoc}
-use Rattle.std.proofs.lemmas.List.{length-append}
+use Rattle.std.proofs.Common.{◌≡◌, ◌⊎◌, inl, inr, ℕ, suc, ◌+◌, Bool, true, false, if◌then◌else◌, drop, List, [], ◌∷◌, ◌++◌, length, Option, Some, None, Ok, Err, ap, subst, refl, sym, ◌∙◌, arith, append_assoc}
+use Rattle.std.proofs.lemmas.List.{append-nil, length-append}
 use Rattle.hr_parse.specs.declared.word.Mark.{Mark}
 use Rattle.hr_rel.specs.declared.expr.Op.{Op}
+use Rattle.hr_rel.specs.declared.expr.Op.TheVariants as op
 use Rattle.hr_parse.specs.declared.word.Word.{Word}
 use Rattle.hr_parse.specs.declared.word.Word.TheVariants as w
 use Rattle.hr_parse.specs.declared.word.Lexeme.{Lexeme}
 use Rattle.hr_parse.specs.Words.{is_mark, mark, compare}
-use Rattle.hr_parse.specs.Reading.{Outcome, Reader, and_then, ◌>>=◌, pure, refuse, sees, expect, ahead_at, sees_name, at_name, comparison, sees_compare, at_compare}
+use Rattle.hr_parse.specs.Readers.{Outcome, Reader, and_then, ◌>>=◌, pure, refuse, place, sees, expect, ahead_at, sees_name, at_name, comparison, sees_compare, at_compare}
 use Rattle.hr_parse.proofs.Marks.{mark_self, is_the_mark}
 
 -- what follows doesn't go on with such a word
@@ -159,83 +160,52 @@ module _ {A B : Type 0} (f : Reader A) (g : A → Reader B) (L : List Lexeme →
     | inr k ↦ stuck_second first second s t k.0.0 k.0.1 k.1 k.2
   ]
 
-  seq_later : (u m : List Lexeme) (a : A) (b : B) (t : List Lexeme) → f (u ++ m) ≡ Ok (a, m) → ((i j : ℕ) → R (i + j) → P i × Q j) → Whole (g a) Q m b t → Whole (f >>= g) R (u ++ m) b t
-  seq_later u m a b t e parts (inl k) = inl (rw e k)
-  seq_later u m a b t e parts (inr k) = inr (record {
+  seq_later : (u m : List Lexeme) (a : A) (b : B) (t : List Lexeme) → f (u ++ m) ≡ Ok (a, m) → ((j : ℕ) → R (length u + j) → Q j) → Whole (g a) Q m b t → Whole (f >>= g) R (u ++ m) b t
+  seq_later u m a b t e behind (inl k) = inl (rw e k)
+  seq_later u m a b t e behind (inr k) = inr (record {
     front = u ++ k.front;
     rest = k.rest;
     split = ap (λ z. u ++ z) k.split ∙ sym (append_assoc u k.front k.rest);
     stops = rw e k.stops;
-    late = λ r. k.late (parts (length u) (length k.front) (subst R (length-append u k.front) r)).1;
+    late = λ r. k.late (behind (length k.front) (subst R (length-append u k.front) r));
   })
 
-  seq_read : (u m : List Lexeme) (a : A) (b : B) (t : List Lexeme) → ((i j : ℕ) → R (i + j) → P i × Q j) → Whole f P (u ++ m) a m → Whole (g a) Q m b t → Whole (f >>= g) R (u ++ m) b t
-  seq_read u m a b t parts (inl e) second = seq_later u m a b t e parts second
-  seq_read u m a b t parts (inr k) second = inr (record {
+  seq_read : (u m : List Lexeme) (a : A) (b : B) (t : List Lexeme) → ((i : ℕ) → R i → P i) → ((j : ℕ) → R (length u + j) → Q j) → Whole f P (u ++ m) a m → Whole (g a) Q m b t
+      → Whole (f >>= g) R (u ++ m) b t
+  seq_read u m a b t before behind (inl e) second = seq_later u m a b t e behind second
+  seq_read u m a b t before behind (inr k) second = inr (record {
     front = k.front;
     rest = k.rest;
     split = k.split;
     stops = rw k.stops refl;
-    late = λ r. let same : length k.front ≡ length k.front + 0 = omega arith in k.late (parts (length k.front) 0 (subst R same r)).0;
+    late = λ r. k.late (before (length k.front) r);
   })
 
-  seq_whole : Rule f L c P → ((a : A) → Rule (g a) (M a) d Q) → ((i j : ℕ) → R (i + j) → P i × Q j)
+  seq_whole : Rule f L c P → ((a : A) → Rule (g a) (M a) d Q) → ((i : ℕ) → R i → P i) → ((u : List Lexeme) (a : A) → L u a → (j : ℕ) → R (length u + j) → Q j)
       → ((a : A) (v : List Lexeme) (b : B) (t : List Lexeme) → M a v b → Stops d t → Stops c (v ++ t))
       → (w : List Lexeme) (b : B) → Seq L M w b → (t : List Lexeme) → Stops d t → Whole (f >>= g) R (w ++ t) b t
-  seq_whole first second parts follows w b (Seq.seq {u} {v} {a} l m) t st =
-      let k : Whole (f >>= g) R (u ++ (v ++ t)) b t = seq_read u (v ++ t) a b t parts (first.whole u a l (v ++ t) (follows a v b t m st)) ((second a).whole v b m t st) in
+  seq_whole first second before behind follows w b (Seq.seq {u} {v} {a} l m) t st =
+      let k : Whole (f >>= g) R (u ++ (v ++ t)) b t = seq_read u (v ++ t) a b t before (behind u a l) (first.whole u a l (v ++ t) (follows a v b t m st)) ((second a).whole v b m t st) in
       subst (λ (z : List Lexeme). Whole (f >>= g) R z b t) (sym (append_assoc u v t)) k
 
-pub rule_seq : {A B : Type 0} {f : Reader A} {g : A → Reader B} {L : List Lexeme → A → Type 0} {M : A → List Lexeme → B → Type 0} {c d : Lexeme → Bool} {P Q : ℕ → Type 0} (R : ℕ → Type 0)
-    → Rule f L c P → ((a : A) → Rule (g a) (M a) d Q) → ((i j : ℕ) → R (i + j) → P i × Q j)
+-- the lengths of the parts, where that of the first is known from what it says
+rule_behind : {A B : Type 0} {f : Reader A} {g : A → Reader B} {L : List Lexeme → A → Type 0} {M : A → List Lexeme → B → Type 0} {c d : Lexeme → Bool} {P Q : ℕ → Type 0} (R : ℕ → Type 0)
+    → Rule f L c P → ((a : A) → Rule (g a) (M a) d Q) → ((i : ℕ) → R i → P i) → ((u : List Lexeme) (a : A) → L u a → (j : ℕ) → R (length u + j) → Q j)
     → ((a : A) (v : List Lexeme) (b : B) (t : List Lexeme) → M a v b → Stops d t → Stops c (v ++ t)) → Rule (f >>= g) (Seq L M) d R
-rule_seq {f = f} {g = g} {L = L} {M = M} {c = c} {d = d} {P = P} {Q = Q} R first second parts follows = record {
+rule_behind {f = f} {g = g} {L = L} {M = M} {c = c} {d = d} {P = P} {Q = Q} R first second before behind follows = record {
   words = first.words ++ (second first.tree).words;
   tree = (second first.tree).tree;
   some = Seq.seq first.some (second first.tree).some;
   got = seq_got f g L M c d P Q R first second;
   stuck = seq_stuck f g L M c d P Q R first second;
-  whole = seq_whole f g L M c d P Q R first second parts follows;
+  whole = seq_whole f g L M c d P Q R first second before behind follows;
 }
 
--- ---- a rule with its tree put into another
-
-map_ok : {A B : Type 0} (h : A → B) (r : Outcome A) (y : B × List Lexeme) → and_then r (λ a. pure (h a)) ≡ Ok y → (p : A × List Lexeme) × (r ≡ Ok p) × (h p.0 ≡ y.0) × (p.1 ≡ y.1)
-map_ok h (Ok p) y e = let q : (h p.0, p.1) ≡ y = cc in (p, refl, ap (λ z. z.0) q, ap (λ z. z.1) q)
-map_ok h (Err w) y e = absurd (cc)
-
-map_err : {A B : Type 0} (h : A → B) (r : Outcome A) (t : List Lexeme) → and_then r (λ a. pure (h a)) ≡ Err t → r ≡ Err t
-map_err h (Ok p) t e = absurd (cc)
-map_err h (Err w) t e = let q : w ≡ t = cc in ap Err q
-
-map_read : {A B : Type 0} {f : Reader A} {P : ℕ → Type 0} (h : A → B) (s : List Lexeme) (a : A) (t : List Lexeme) → Whole f P s a t → Whole (f >>= (λ a. pure (h a))) P s (h a) t
-map_read h s a t (inl e) = inl (rw e refl)
-map_read h s a t (inr k) = inr (record { front = k.front; rest = k.rest; split = k.split; stops = rw k.stops refl; late = k.late })
-
-map_whole : {A B : Type 0} {f : Reader A} {L : List Lexeme → A → Type 0} {c : Lexeme → Bool} {P : ℕ → Type 0} (h : A → B) → Rule f L c P
-    → (u : List Lexeme) (b : B) → Map h L u b → (t : List Lexeme) → Stops c t → Whole (f >>= (λ a. pure (h a))) P (u ++ t) b t
-map_whole h r w b (Map.map {u} {a} l) t st = map_read h (u ++ t) a t (r.whole u a l t st)
-
-pub rule_map : {A B : Type 0} {f : Reader A} {L : List Lexeme → A → Type 0} {c : Lexeme → Bool} {P : ℕ → Type 0} (h : A → B) → Rule f L c P
-    → Rule (f >>= (λ a. pure (h a))) (Map h L) c P
-rule_map {f = f} {L = L} h r = record {
-  words = r.words;
-  tree = h r.tree;
-  some = Map.map r.some;
-  got = λ s t b e.
-      let k = map_ok h (f s) (b, t) e in
-      let one : Got f L s k.0.0 t = r.got s t k.0.0 (k.1 ∙ ap (λ z. Ok (k.0.0, z)) k.3) in
-      record {
-        front = one.front;
-        split = one.split;
-        gives = subst (λ z. Map h L one.front z) k.2 (Map.map one.gives);
-        same = λ x v w d. rw (one.same x v w d) (ap (λ z. Ok (z, x ∷ w)) k.2);
-      };
-  stuck = λ s t e.
-      let one : Stuck f L s t = r.stuck s t (map_err h (f s) t e) in
-      record { front = one.front; split = one.split; more = one.more; tree = h one.tree; gives = Map.map one.gives; same = λ x v w d. rw (one.same x v w d) refl };
-  whole = map_whole h r;
-}
+pub rule_seq : {A B : Type 0} {f : Reader A} {g : A → Reader B} {L : List Lexeme → A → Type 0} {M : A → List Lexeme → B → Type 0} {c d : Lexeme → Bool} {P Q : ℕ → Type 0} (R : ℕ → Type 0)
+    → Rule f L c P → ((a : A) → Rule (g a) (M a) d Q) → ((i j : ℕ) → R (i + j) → P i × Q j)
+    → ((a : A) (v : List Lexeme) (b : B) (t : List Lexeme) → M a v b → Stops d t → Stops c (v ++ t)) → Rule (f >>= g) (Seq L M) d R
+rule_seq R first second parts follows =
+    rule_behind R first second (λ i r. let same : i ≡ i + 0 = omega arith in (parts i 0 (subst R same r)).0) (λ u a l j r. (parts (length u) j r).1) follows
 
 -- ---- nothing
 
@@ -257,54 +227,23 @@ rule_pure a = record {
   whole = λ u b l t st. inl (pure_whole a u b l t);
 }
 
--- ---- a mark that has to come
+-- ---- a rule with its tree put into another
 
-expect_cons : (m : Mark) (x : Lexeme) (s t : List Lexeme) (b : Unit {0}) → (v : Bool) → is_mark m x.word ≡ v → expect m (x ∷ s) ≡ Ok (b, t) → Got (expect m) (IsMark m) (x ∷ s) b t
-expect_cons m x s t b true h e =
-    let q : s ≡ t = (ok_parts tt b s t (rw h at e)).1 in
-    let y = is_the_mark m x h in
-    record {
-      front = x ∷ [];
-      split = ap (λ z. x ∷ z) q;
-      gives = subst (λ z. IsMark m (z ∷ []) b) (sym y) (IsMark.the x.at);
-      same = λ o v w d. rw h refl;
-    }
-expect_cons m x s t b false h e = let z = rw h at e in absurd (cc)
+to_map : {A B : Type 0} (h : A → B) (L : List Lexeme → A → Type 0) (u : List Lexeme) (b : B) → Seq L (λ a. Done (h a)) u b → Map h L u b
+to_map h L w b (Seq.seq {u} {a} l Done.done) = subst (λ z. Map h L z (h a)) (sym (append-nil u)) (Map.map l)
 
-expect_got : (m : Mark) (s t : List Lexeme) (b : Unit {0}) → expect m s ≡ Ok (b, t) → Got (expect m) (IsMark m) s b t
-expect_got m [] t b e = absurd (cc)
-expect_got m (x ∷ s) t b e = expect_cons m x s t b (is_mark m x.word) refl e
+of_map : {A B : Type 0} (h : A → B) (L : List Lexeme → A → Type 0) (u : List Lexeme) (b : B) → Map h L u b → Seq L (λ a. Done (h a)) u b
+of_map h L w b (Map.map {u} {a} l) =
+    let k : Seq L (λ a. Done (h a)) (u ++ []) (h a) = Seq.seq l Done.done in
+    subst (λ z. Seq L (λ a. Done (h a)) z (h a)) (append-nil u) k
 
-expect_refused : (m : Mark) (x : Lexeme) (s t : List Lexeme) (v : Bool) → is_mark m x.word ≡ v → expect m (x ∷ s) ≡ Err t → Stuck (expect m) (IsMark m) (x ∷ s) t
-expect_refused m x s t true h e = let z = rw h at e in absurd (cc)
-expect_refused m x s t false h e =
-    let z = rw h at e in
-    let q : (x ∷ s) ≡ t = cc in
-    record {
-      front = [];
-      split = q;
-      more = mark m 0 ∷ [];
-      tree = tt;
-      gives = IsMark.the 0;
-      same = λ o v w d. let first : x ≡ o = cc in rw (← first) (rw h refl);
-    }
+done_stops : {A : Type 0} (c : Lexeme → Bool) (a : A) (v : List Lexeme) (b : A) (t : List Lexeme) → Done a v b → Stops c t → Stops c (v ++ t)
+done_stops c a v b t Done.done st = st
 
-expect_stuck : (m : Mark) (s t : List Lexeme) → expect m s ≡ Err t → Stuck (expect m) (IsMark m) s t
-expect_stuck m [] t e = let q : [] ≡ t = cc in record { front = []; split = q; more = mark m 0 ∷ []; tree = tt; gives = IsMark.the 0; same = λ o v w d. absurd (cc) }
-expect_stuck m (x ∷ s) t e = expect_refused m x s t (is_mark m x.word) refl e
-
-expect_whole : (m : Mark) (u : List Lexeme) (b : Unit {0}) → IsMark m u b → (t : List Lexeme) → expect m (u ++ t) ≡ Ok (b, t)
-expect_whole m u b (IsMark.the p) t = rw (mark_self m) refl
-
-pub rule_expect : {c : Lexeme → Bool} {P : ℕ → Type 0} (m : Mark) → Rule (expect m) (IsMark m) c P
-rule_expect m = record {
-  words = mark m 0 ∷ [];
-  tree = tt;
-  some = IsMark.the 0;
-  got = λ s t b e. expect_got m s t b e;
-  stuck = λ s t e. expect_stuck m s t e;
-  whole = λ u b l t st. inl (expect_whole m u b l t);
-}
+pub rule_map : {A B : Type 0} {f : Reader A} {L : List Lexeme → A → Type 0} {c : Lexeme → Bool} {P : ℕ → Type 0} (h : A → B) → Rule f L c P
+    → Rule (f >>= (λ a. pure (h a))) (Map h L) c P
+rule_map {L = L} {c = c} {P = P} h r = rule_iso (to_map h L) (of_map h L)
+    (rule_behind P r (λ a. rule_pure {c = c} {P = λ _. Unit {0}} (h a)) (λ i p. p) (λ u a l j p. tt) (λ a v b t l st. done_stops c (h a) v b t l st))
 
 -- ---- other stops and lengths
 
@@ -323,7 +262,152 @@ rule_weak d Q stops fits r = record {
   whole = λ u a l t st. weak_read fits (r.whole u a l t (stops t st));
 }
 
+-- stopped by nothing
+abbrev pub never : Lexeme → Bool
+never x = false
+
+pub never_stops : (t : List Lexeme) → Stops never t
+never_stops [] = tt
+never_stops (x ∷ t) = refl
+
+-- ---- one word by a test
+
+abbrev pub by_test : {A : Type 0} → (Lexeme → Option A) → Reader A
+by_test test [] = Err []
+by_test test (x ∷ rest) = elim (test x) [ Some a ↦ Ok (a, rest) | None ↦ Err (x ∷ rest) ]
+
+pub data Tested {A : Type 0} (test : Lexeme → Option A) : List Lexeme → A → Type 0 where
+  tested : (x : Lexeme) (a : A) → test x ≡ Some a → Tested test (x ∷ []) a
+
+module _ {A : Type 0} (test : Lexeme → Option A) (y : Lexeme) (b : A) (example : test y ≡ Some b) where
+  test_got : (x : Lexeme) (s t : List Lexeme) (a : A) (v : Option A) → test x ≡ v → by_test test (x ∷ s) ≡ Ok (a, t) → Got (by_test test) (Tested test) (x ∷ s) a t
+  test_got x s t a None h e = let z = rw (h, by_test) at e in absurd (cc)
+  test_got x s t a (Some d) h e =
+      let k = ok_parts d a s t (rw (h, by_test) at e) in
+      record {
+        front = x ∷ [];
+        split = ap (λ z. x ∷ z) k.1;
+        gives = Tested.tested x a (h ∙ ap Some k.0);
+        same = λ o v w q. rw (h ∙ ap Some k.0, by_test) refl;
+      }
+
+  test_all : (s t : List Lexeme) (a : A) → by_test test s ≡ Ok (a, t) → Got (by_test test) (Tested test) s a t
+  test_all [] t a e = absurd (cc)
+  test_all (x ∷ s) t a e = test_got x s t a (test x) refl e
+
+  test_refused : (x : Lexeme) (s t : List Lexeme) (v : Option A) → test x ≡ v → by_test test (x ∷ s) ≡ Err t → Stuck (by_test test) (Tested test) (x ∷ s) t
+  test_refused x s t (Some d) h e = let z = rw (h, by_test) at e in absurd (cc)
+  test_refused x s t None h e =
+      let z = rw (h, by_test) at e in
+      let q : (x ∷ s) ≡ t = cc in
+      record {
+        front = [];
+        split = q;
+        more = y ∷ [];
+        tree = b;
+        gives = Tested.tested y b example;
+        same = λ o v r d. let first : x ≡ o = cc in let again : by_test test (x ∷ r) ≡ Err (x ∷ r) = rw (h, by_test) refl in subst (λ z. by_test test (z ∷ r) ≡ Err (z ∷ r)) first again;
+      }
+
+  test_stuck : (s t : List Lexeme) → by_test test s ≡ Err t → Stuck (by_test test) (Tested test) s t
+  test_stuck [] t e = let q : [] ≡ t = cc in record { front = []; split = q; more = y ∷ []; tree = b; gives = Tested.tested y b example; same = λ o v w d. absurd (cc) }
+  test_stuck (x ∷ s) t e = test_refused x s t (test x) refl e
+
+test_whole : {A : Type 0} (test : Lexeme → Option A) (u : List Lexeme) (a : A) → Tested test u a → (t : List Lexeme) → by_test test (u ++ t) ≡ Ok (a, t)
+test_whole test u b (Tested.tested x a h) t = rw (h, by_test) refl
+
+pub rule_test : {A : Type 0} {c : Lexeme → Bool} {P : ℕ → Type 0} (test : Lexeme → Option A) (y : Lexeme) (b : A) → test y ≡ Some b → Rule (by_test test) (Tested test) c P
+rule_test test y b example = record {
+  words = y ∷ [];
+  tree = b;
+  some = Tested.tested y b example;
+  got = test_all test y b example;
+  stuck = test_stuck test y b example;
+  whole = λ u a l t st. inl (test_whole test u a l t);
+}
+
+-- a reader that is the same function
+alike_read : {A : Type 0} {f : Reader A} {P : ℕ → Type 0} (g : Reader A) → ((s : List Lexeme) → g s ≡ f s) → (s : List Lexeme) (a : A) (t : List Lexeme) → Whole f P s a t → Whole g P s a t
+alike_read g e s a t (inl k) = inl (e s ∙ k)
+alike_read g e s a t (inr k) = inr (record { front = k.front; rest = k.rest; split = k.split; stops = e s ∙ k.stops; late = k.late })
+
+pub rule_alike : {A : Type 0} {f : Reader A} {L : List Lexeme → A → Type 0} {c : Lexeme → Bool} {P : ℕ → Type 0} (g : Reader A) → ((s : List Lexeme) → g s ≡ f s) → Rule f L c P → Rule g L c P
+rule_alike {f = f} {L = L} g e r = record {
+  words = r.words;
+  tree = r.tree;
+  some = r.some;
+  got = λ s t a h. let one : Got f L s a t = r.got s t a (sym (e s) ∙ h) in record { front = one.front; split = one.split; gives = one.gives; same = λ x v w d. e (one.front ++ (x ∷ w)) ∙ one.same x v w d };
+  stuck = λ s t h. let one : Stuck f L s t = r.stuck s t (sym (e s) ∙ h) in record { front = one.front; split = one.split; more = one.more; tree = one.tree; gives = one.gives; same = λ x v w d. e (one.front ++ (x ∷ w)) ∙ one.same x v w d };
+  whole = λ u a l t st. alike_read g e (u ++ t) a t (r.whole u a l t st);
+}
+
+-- ---- marks
+
+-- the value, where the test holds
+abbrev pub when : {A : Type 0} → Bool → A → Option A
+when true a = Some a
+when false a = None
+
+when_some : {A : Type 0} (b : Bool) (a p : A) → when b a ≡ Some p → (b ≡ true) × (a ≡ p)
+when_some true a p e = (refl, let q : a ≡ p = cc in q)
+when_some false a p e = absurd (cc)
+
+-- the place of a word that is this mark
+abbrev marked : Mark → Lexeme → Option ℕ
+marked m x = when (is_mark m x.word) x.at
+
+marked_is : (m : Mark) (x : Lexeme) (p : ℕ) → marked m x ≡ Some p → x ≡ mark m p
+marked_is m x p e = let k = when_some (is_mark m x.word) x.at p e in is_the_mark m x k.0 ∙ ap (λ z. mark m z) k.1
+
+mark_marked : (m : Mark) (p : ℕ) → marked m (mark m p) ≡ Some p
+mark_marked m p = rw (mark_self m) refl
+
+-- a mark that has to come, with what L says behind it
+pub data Only {A : Type 0} (m : Mark) (L : ℕ → List Lexeme → A → Type 0) : List Lexeme → A → Type 0 where
+  only : (p : ℕ) {u : List Lexeme} {a : A} → L p u a → Only m L (mark m p ∷ u) a
+
+only_alike_at : {A : Type 0} (b : Bool) (f : ℕ → Reader A) (x : Lexeme) (s : List Lexeme)
+    → (if b then f x.at s else Err (x ∷ s)) ≡ and_then (elim (when b x.at) [ Some p ↦ Ok (p, s) | None ↦ Err (x ∷ s) ]) f
+only_alike_at true f x s = refl
+only_alike_at false f x s = refl
+
+only_alike : {A : Type 0} (m : Mark) (f : ℕ → Reader A) (s : List Lexeme) → ahead_at m f refuse s ≡ (by_test (marked m) >>= f) s
+only_alike m f [] = refl
+only_alike m f (x ∷ s) = only_alike_at (is_mark m x.word) f x s
+
+to_only : {A : Type 0} (m : Mark) (L : ℕ → List Lexeme → A → Type 0) (u : List Lexeme) (a : A) → Seq (Tested (marked m)) L u a → Only m L u a
+to_only m L w b (Seq.seq {v = v} (Tested.tested x p e) l) = subst (λ z. Only m L (z ∷ v) b) (sym (marked_is m x p e)) (Only.only p l)
+
+of_only : {A : Type 0} (m : Mark) (L : ℕ → List Lexeme → A → Type 0) (u : List Lexeme) (a : A) → Only m L u a → Seq (Tested (marked m)) L u a
+of_only m L u a (Only.only p l) = Seq.seq (Tested.tested (mark m p) p (mark_marked m p)) l
+
+-- a word that passes a test is one word
+one_word : {A : Type 0} (test : Lexeme → Option A) (P Q : ℕ → Type 0) → ((i : ℕ) → P (suc i) → Q i) → (u : List Lexeme) (a : A) → Tested test u a → (j : ℕ) → P (length u + j) → Q j
+one_word test P Q shorter u b (Tested.tested x a e) j p = let same : length (x ∷ []) + j ≡ suc j = omega arith in shorter j (subst P same p)
+
+pub rule_only : {A : Type 0} {m : Mark} {f : ℕ → Reader A} {L : ℕ → List Lexeme → A → Type 0} {c : Lexeme → Bool} {Q : ℕ → Type 0} (P : ℕ → Type 0)
+    → ((p : ℕ) → Rule (f p) (L p) c Q) → ((i : ℕ) → P (suc i) → Q i) → Rule (ahead_at m f refuse) (Only m L) c P
+rule_only {m = m} {f = f} {L = L} {Q = Q} P here shorter = rule_alike (ahead_at m f refuse) (only_alike m f) (rule_iso (to_only m L) (of_only m L)
+    (rule_behind P (rule_test {c = never} {P = P} (marked m) (mark m 0) 0 (mark_marked m 0)) here (λ i p. p) (one_word (marked m) P Q shorter) (λ a v b t l st. never_stops (v ++ t))))
+
+-- ---- a mark that has to come
+
+expect_alike : (m : Mark) (s : List Lexeme) → expect m s ≡ ahead_at m (λ _. pure tt) refuse s
+expect_alike m s = refl
+
+to_mark : (m : Mark) (u : List Lexeme) (a : Unit {0}) → Only m (λ _. Done tt) u a → IsMark m u a
+to_mark m u a (Only.only p Done.done) = IsMark.the p
+
+of_mark : (m : Mark) (u : List Lexeme) (a : Unit {0}) → IsMark m u a → Only m (λ _. Done tt) u a
+of_mark m u a (IsMark.the p) = Only.only p Done.done
+
+pub rule_expect : {c : Lexeme → Bool} {P : ℕ → Type 0} (m : Mark) → Rule (expect m) (IsMark m) c P
+rule_expect {c} {P} m = rule_alike (expect m) (expect_alike m) (rule_iso (to_mark m) (of_mark m) (rule_only P (λ _. rule_pure {c = c} {P = λ _. Unit {0}} tt) (λ i p. tt)))
+
 -- ---- by the first word
+
+abbrev pub branch : {A : Type 0} → (List Lexeme → Bool) → Reader A → Reader A → Reader A
+branch test f g = λ words. if test words then f words else g words
 
 -- the first word is the same, where the words are the same up to the first that wasn't taken
 pub same_first : {B : Type 0} (test : List Lexeme → B) → ((x : Lexeme) (s t : List Lexeme) → test (x ∷ s) ≡ test (x ∷ t))
@@ -331,179 +415,31 @@ pub same_first : {B : Type 0} (test : List Lexeme → B) → ((x : Lexeme) (s t 
 same_first test alike [] s t v w x e d = let q : s ≡ x ∷ v = e ∙ d in rw q (alike x w v)
 same_first test alike (y ∷ ys) s t v w x e d = rw e (alike y (ys ++ (x ∷ w)) (ys ++ t))
 
-sees_alike : (m : Mark) (x : Lexeme) (s t : List Lexeme) → sees m (x ∷ s) ≡ sees m (x ∷ t)
-sees_alike m x s t = refl
-
-module _ {A : Type 0} (m : Mark) (f : ℕ → Reader A) (g : Reader A) (L : ℕ → List Lexeme → A → Type 0) (M : List Lexeme → A → Type 0) (c : Lexeme → Bool) (P Q : ℕ → Type 0)
-    (here : (p : ℕ) → Rule (f p) (L p) c Q) (there : Rule g M c P) where
-  ahead_got : (s t : List Lexeme) (a : A) (v : Bool) → sees m s ≡ v → ahead_at m f g s ≡ Ok (a, t) → Got (ahead_at m f g) (Ahead m L M) s a t
-  ahead_got s t a false h e =
-      let one : Got g M s a t = there.got s t a (rw h at e) in
-      record {
-        front = one.front;
-        split = one.split;
-        gives = Ahead.other one.gives;
-        same = λ x v w d. rw (same_first (sees m) (sees_alike m) one.front s t v w x one.split d ∙ h) (one.same x v w d);
-      }
-  ahead_got [] t a true h e = absurd (cc)
-  ahead_got (y ∷ s) t a true h e =
-      let one : Got (f y.at) (L y.at) s a t = (here y.at).got s t a (rw h at e) in
-      record {
-        front = y ∷ one.front;
-        split = ap (λ z. y ∷ z) one.split;
-        gives = subst (λ z. Ahead m L M (z ∷ one.front) a) (sym (is_the_mark m y h)) (Ahead.this y.at one.gives);
-        same = λ x v w d. rw h (one.same x v w d);
-      }
-
-  ahead_stuck : (s t : List Lexeme) (v : Bool) → sees m s ≡ v → ahead_at m f g s ≡ Err t → Stuck (ahead_at m f g) (Ahead m L M) s t
-  ahead_stuck s t false h e =
-      let one : Stuck g M s t = there.stuck s t (rw h at e) in
-      record {
-        front = one.front;
-        split = one.split;
-        more = one.more;
-        tree = one.tree;
-        gives = Ahead.other one.gives;
-        same = λ x v w d. rw (same_first (sees m) (sees_alike m) one.front s t v w x one.split d ∙ h) (one.same x v w d);
-      }
-  ahead_stuck [] t true h e = absurd (cc)
-  ahead_stuck (y ∷ s) t true h e =
-      let one : Stuck (f y.at) (L y.at) s t = (here y.at).stuck s t (rw h at e) in
-      record {
-        front = y ∷ one.front;
-        split = ap (λ z. y ∷ z) one.split;
-        more = one.more;
-        tree = one.tree;
-        gives = subst (λ z. Ahead m L M (z ∷ (one.front ++ one.more)) one.tree) (sym (is_the_mark m y h)) (Ahead.this y.at one.gives);
-        same = λ x v w d. rw h (one.same x v w d);
-      }
-
-  ahead_this : ((i : ℕ) → P (suc i) → Q i) → (p : ℕ) (s : List Lexeme) (a : A) (t : List Lexeme) → Whole (f p) Q s a t → Whole (ahead_at m f g) P (mark m p ∷ s) a t
-  ahead_this shorter p s a t (inl e) = inl (rw (mark_self m) e)
-  ahead_this shorter p s a t (inr k) = inr (record {
-    front = mark m p ∷ k.front;
-    rest = k.rest;
-    split = ap (λ z. mark m p ∷ z) k.split;
-    stops = rw (mark_self m) k.stops;
-    late = λ q. k.late (shorter (length k.front) q);
-  })
-
-  ahead_other : (s : List Lexeme) (a : A) (t : List Lexeme) → sees m s ≡ false → Whole g P s a t → Whole (ahead_at m f g) P s a t
-  ahead_other s a t h (inl e) = inl (rw h e)
-  ahead_other s a t h (inr k) = inr (record { front = k.front; rest = k.rest; split = k.split; stops = rw h k.stops; late = k.late })
-
-  ahead_whole : ((i : ℕ) → P (suc i) → Q i) → ((u : List Lexeme) (a : A) (t : List Lexeme) → M u a → Stops c t → sees m (u ++ t) ≡ false)
-      → (w : List Lexeme) (a : A) → Ahead m L M w a → (t : List Lexeme) → Stops c t → Whole (ahead_at m f g) P (w ++ t) a t
-  ahead_whole shorter apart w a (Ahead.this p {u} l) t st = ahead_this shorter p (u ++ t) a t ((here p).whole u a l t st)
-  ahead_whole shorter apart w a (Ahead.other l) t st = ahead_other (w ++ t) a t (apart w a t l st) (there.whole w a l t st)
-
-pub rule_ahead : {A : Type 0} {m : Mark} {f : ℕ → Reader A} {g : Reader A} {L : ℕ → List Lexeme → A → Type 0} {M : List Lexeme → A → Type 0} {c : Lexeme → Bool} {P Q : ℕ → Type 0}
-    → ((p : ℕ) → Rule (f p) (L p) c Q) → Rule g M c P → ((i : ℕ) → P (suc i) → Q i)
-    → ((u : List Lexeme) (a : A) (t : List Lexeme) → M u a → Stops c t → sees m (u ++ t) ≡ false) → Rule (ahead_at m f g) (Ahead m L M) c P
-rule_ahead {m = m} {f = f} {g = g} {L = L} {M = M} {c = c} {P = P} {Q = Q} here there shorter apart = record {
-  words = there.words;
-  tree = there.tree;
-  some = Ahead.other there.some;
-  got = λ s t a e. ahead_got m f g L M c P Q here there s t a (sees m s) refl e;
-  stuck = λ s t e. ahead_stuck m f g L M c P Q here there s t (sees m s) refl e;
-  whole = ahead_whole m f g L M c P Q here there shorter apart;
-}
-
--- a mark that has to come, with what L says behind it
-pub data Only {A : Type 0} (m : Mark) (L : ℕ → List Lexeme → A → Type 0) : List Lexeme → A → Type 0 where
-  only : (p : ℕ) {u : List Lexeme} {a : A} → L p u a → Only m L (mark m p ∷ u) a
-
-module _ {A : Type 0} (m : Mark) (f : ℕ → Reader A) (L : ℕ → List Lexeme → A → Type 0) (c : Lexeme → Bool) (P Q : ℕ → Type 0) (here : (p : ℕ) → Rule (f p) (L p) c Q) where
-  only_got : (s t : List Lexeme) (a : A) (v : Bool) → sees m s ≡ v → ahead_at m f refuse s ≡ Ok (a, t) → Got (ahead_at m f refuse) (Only m L) s a t
-  only_got s t a false h e = let z = rw h at e in absurd (cc)
-  only_got [] t a true h e = absurd (cc)
-  only_got (y ∷ s) t a true h e =
-      let one : Got (f y.at) (L y.at) s a t = (here y.at).got s t a (rw h at e) in
-      record {
-        front = y ∷ one.front;
-        split = ap (λ z. y ∷ z) one.split;
-        gives = subst (λ z. Only m L (z ∷ one.front) a) (sym (is_the_mark m y h)) (Only.only y.at one.gives);
-        same = λ x v w d. rw h (one.same x v w d);
-      }
-
-  only_stuck : (s t : List Lexeme) (v : Bool) → sees m s ≡ v → ahead_at m f refuse s ≡ Err t → Stuck (ahead_at m f refuse) (Only m L) s t
-  only_stuck s t false h e =
-      let z = rw h at e in
-      let q : s ≡ t = cc in
-      record {
-        front = [];
-        split = q;
-        more = mark m 0 ∷ (here 0).words;
-        tree = (here 0).tree;
-        gives = Only.only 0 (here 0).some;
-        same = λ x v w d. rw (same_first (sees m) (sees_alike m) [] s t v w x q d ∙ h) refl;
-      }
-  only_stuck [] t true h e = absurd (cc)
-  only_stuck (y ∷ s) t true h e =
-      let one : Stuck (f y.at) (L y.at) s t = (here y.at).stuck s t (rw h at e) in
-      record {
-        front = y ∷ one.front;
-        split = ap (λ z. y ∷ z) one.split;
-        more = one.more;
-        tree = one.tree;
-        gives = subst (λ z. Only m L (z ∷ (one.front ++ one.more)) one.tree) (sym (is_the_mark m y h)) (Only.only y.at one.gives);
-        same = λ x v w d. rw h (one.same x v w d);
-      }
-
-  only_this : ((i : ℕ) → P (suc i) → Q i) → (p : ℕ) (s : List Lexeme) (a : A) (t : List Lexeme) → Whole (f p) Q s a t → Whole (ahead_at m f refuse) P (mark m p ∷ s) a t
-  only_this shorter p s a t (inl e) = inl (rw (mark_self m) e)
-  only_this shorter p s a t (inr k) = inr (record {
-    front = mark m p ∷ k.front;
-    rest = k.rest;
-    split = ap (λ z. mark m p ∷ z) k.split;
-    stops = rw (mark_self m) k.stops;
-    late = λ q. k.late (shorter (length k.front) q);
-  })
-
-  only_whole : ((i : ℕ) → P (suc i) → Q i) → (w : List Lexeme) (a : A) → Only m L w a → (t : List Lexeme) → Stops c t → Whole (ahead_at m f refuse) P (w ++ t) a t
-  only_whole shorter w a (Only.only p {u} l) t st = only_this shorter p (u ++ t) a t ((here p).whole u a l t st)
-
-pub rule_only : {A : Type 0} {m : Mark} {f : ℕ → Reader A} {L : ℕ → List Lexeme → A → Type 0} {c : Lexeme → Bool} {Q : ℕ → Type 0} (P : ℕ → Type 0)
-    → ((p : ℕ) → Rule (f p) (L p) c Q) → ((i : ℕ) → P (suc i) → Q i) → Rule (ahead_at m f refuse) (Only m L) c P
-rule_only {m = m} {f = f} {L = L} {c = c} {Q = Q} P here shorter = record {
-  words = mark m 0 ∷ (here 0).words;
-  tree = (here 0).tree;
-  some = Only.only 0 (here 0).some;
-  got = λ s t a e. only_got m f L c P Q here s t a (sees m s) refl e;
-  stuck = λ s t e. only_stuck m f L c P Q here s t (sees m s) refl e;
-  whole = only_whole m f L c P Q here shorter;
-}
-
--- ---- by a name, by a comparison
-
 pub data Either {A : Type 0} (L M : List Lexeme → A → Type 0) : List Lexeme → A → Type 0 where
   left : {u : List Lexeme} {a : A} → L u a → Either L M u a
   right : {u : List Lexeme} {a : A} → M u a → Either L M u a
 
-name_alike : (x : Lexeme) (s t : List Lexeme) → sees_name (x ∷ s) ≡ sees_name (x ∷ t)
-name_alike x s t = refl
-
-module _ {A : Type 0} (f g : Reader A) (L M : List Lexeme → A → Type 0) (c : Lexeme → Bool) (P : ℕ → Type 0) (here : Rule f L c P) (there : Rule g M c P) where
-  name_got : (s t : List Lexeme) (a : A) (v : Bool) → sees_name s ≡ v → at_name f g s ≡ Ok (a, t) → Got (at_name f g) (Either L M) s a t
-  name_got s t a true h e =
+module _ {A : Type 0} (test : List Lexeme → Bool) (alike : (x : Lexeme) (s t : List Lexeme) → test (x ∷ s) ≡ test (x ∷ t)) (f g : Reader A) (L M : List Lexeme → A → Type 0) (c : Lexeme → Bool) (P : ℕ → Type 0) (here : Rule f L c P) (there : Rule g M c P) where
+  branch_got : (s t : List Lexeme) (a : A) (v : Bool) → test s ≡ v → branch test f g s ≡ Ok (a, t) → Got (branch test f g) (Either L M) s a t
+  branch_got s t a true h e =
       let one : Got f L s a t = here.got s t a (rw h at e) in
       record {
         front = one.front;
         split = one.split;
         gives = Either.left one.gives;
-        same = λ x v w d. rw (same_first sees_name name_alike one.front s t v w x one.split d ∙ h) (one.same x v w d);
+        same = λ x v w d. rw (same_first test alike one.front s t v w x one.split d ∙ h) (one.same x v w d);
       }
-  name_got s t a false h e =
+  branch_got s t a false h e =
       let one : Got g M s a t = there.got s t a (rw h at e) in
       record {
         front = one.front;
         split = one.split;
         gives = Either.right one.gives;
-        same = λ x v w d. rw (same_first sees_name name_alike one.front s t v w x one.split d ∙ h) (one.same x v w d);
+        same = λ x v w d. rw (same_first test alike one.front s t v w x one.split d ∙ h) (one.same x v w d);
       }
 
-  name_stuck : (s t : List Lexeme) (v : Bool) → sees_name s ≡ v → at_name f g s ≡ Err t → Stuck (at_name f g) (Either L M) s t
-  name_stuck s t true h e =
+  branch_stuck : (s t : List Lexeme) (v : Bool) → test s ≡ v → branch test f g s ≡ Err t → Stuck (branch test f g) (Either L M) s t
+  branch_stuck s t true h e =
       let one : Stuck f L s t = here.stuck s t (rw h at e) in
       record {
         front = one.front;
@@ -511,9 +447,9 @@ module _ {A : Type 0} (f g : Reader A) (L M : List Lexeme → A → Type 0) (c :
         more = one.more;
         tree = one.tree;
         gives = Either.left one.gives;
-        same = λ x v w d. rw (same_first sees_name name_alike one.front s t v w x one.split d ∙ h) (one.same x v w d);
+        same = λ x v w d. rw (same_first test alike one.front s t v w x one.split d ∙ h) (one.same x v w d);
       }
-  name_stuck s t false h e =
+  branch_stuck s t false h e =
       let one : Stuck g M s t = there.stuck s t (rw h at e) in
       record {
         front = one.front;
@@ -521,41 +457,71 @@ module _ {A : Type 0} (f g : Reader A) (L M : List Lexeme → A → Type 0) (c :
         more = one.more;
         tree = one.tree;
         gives = Either.right one.gives;
-        same = λ x v w d. rw (same_first sees_name name_alike one.front s t v w x one.split d ∙ h) (one.same x v w d);
+        same = λ x v w d. rw (same_first test alike one.front s t v w x one.split d ∙ h) (one.same x v w d);
       }
 
-  name_left : (s : List Lexeme) (a : A) (t : List Lexeme) → sees_name s ≡ true → Whole f P s a t → Whole (at_name f g) P s a t
-  name_left s a t h (inl e) = inl (rw h e)
-  name_left s a t h (inr k) = inr (record { front = k.front; rest = k.rest; split = k.split; stops = rw h k.stops; late = k.late })
+  branch_left : (s : List Lexeme) (a : A) (t : List Lexeme) → test s ≡ true → Whole f P s a t → Whole (branch test f g) P s a t
+  branch_left s a t h (inl e) = inl (rw h e)
+  branch_left s a t h (inr k) = inr (record { front = k.front; rest = k.rest; split = k.split; stops = rw h k.stops; late = k.late })
 
-  name_right : (s : List Lexeme) (a : A) (t : List Lexeme) → sees_name s ≡ false → Whole g P s a t → Whole (at_name f g) P s a t
-  name_right s a t h (inl e) = inl (rw h e)
-  name_right s a t h (inr k) = inr (record { front = k.front; rest = k.rest; split = k.split; stops = rw h k.stops; late = k.late })
+  branch_right : (s : List Lexeme) (a : A) (t : List Lexeme) → test s ≡ false → Whole g P s a t → Whole (branch test f g) P s a t
+  branch_right s a t h (inl e) = inl (rw h e)
+  branch_right s a t h (inr k) = inr (record { front = k.front; rest = k.rest; split = k.split; stops = rw h k.stops; late = k.late })
 
-  name_whole : ((u : List Lexeme) (a : A) (t : List Lexeme) → L u a → sees_name (u ++ t) ≡ true)
-      → ((u : List Lexeme) (a : A) (t : List Lexeme) → M u a → Stops c t → sees_name (u ++ t) ≡ false)
-      → (w : List Lexeme) (a : A) → Either L M w a → (t : List Lexeme) → Stops c t → Whole (at_name f g) P (w ++ t) a t
-  name_whole named unnamed w a (Either.left l) t st = name_left (w ++ t) a t (named w a t l) (here.whole w a l t st)
-  name_whole named unnamed w a (Either.right l) t st = name_right (w ++ t) a t (unnamed w a t l st) (there.whole w a l t st)
+  branch_whole : ((u : List Lexeme) (a : A) (t : List Lexeme) → L u a → test (u ++ t) ≡ true)
+      → ((u : List Lexeme) (a : A) (t : List Lexeme) → M u a → Stops c t → test (u ++ t) ≡ false)
+      → (w : List Lexeme) (a : A) → Either L M w a → (t : List Lexeme) → Stops c t → Whole (branch test f g) P (w ++ t) a t
+  branch_whole named unnamed w a (Either.left l) t st = branch_left (w ++ t) a t (named w a t l) (here.whole w a l t st)
+  branch_whole named unnamed w a (Either.right l) t st = branch_right (w ++ t) a t (unnamed w a t l st) (there.whole w a l t st)
+
+pub rule_branch : {A : Type 0} {f g : Reader A} {L M : List Lexeme → A → Type 0} {c : Lexeme → Bool} {P : ℕ → Type 0} (test : List Lexeme → Bool) → ((x : Lexeme) (s t : List Lexeme) → test (x ∷ s) ≡ test (x ∷ t)) → Rule f L c P → Rule g M c P
+    → ((u : List Lexeme) (a : A) (t : List Lexeme) → L u a → test (u ++ t) ≡ true)
+    → ((u : List Lexeme) (a : A) (t : List Lexeme) → M u a → Stops c t → test (u ++ t) ≡ false) → Rule (branch test f g) (Either L M) c P
+rule_branch {f = f} {g = g} {L = L} {M = M} {c = c} {P = P} test alike here there seen unseen = record {
+  words = here.words;
+  tree = here.tree;
+  some = Either.left here.some;
+  got = λ s t a e. branch_got test alike f g L M c P here there s t a (test s) refl e;
+  stuck = λ s t e. branch_stuck test alike f g L M c P here there s t (test s) refl e;
+  whole = branch_whole test alike f g L M c P here there seen unseen;
+}
 
 pub rule_at_name : {A : Type 0} {f g : Reader A} {L M : List Lexeme → A → Type 0} {c : Lexeme → Bool} {P : ℕ → Type 0} → Rule f L c P → Rule g M c P
     → ((u : List Lexeme) (a : A) (t : List Lexeme) → L u a → sees_name (u ++ t) ≡ true)
     → ((u : List Lexeme) (a : A) (t : List Lexeme) → M u a → Stops c t → sees_name (u ++ t) ≡ false) → Rule (at_name f g) (Either L M) c P
-rule_at_name {f = f} {g = g} {L = L} {M = M} {c = c} {P = P} here there named unnamed = record {
-  words = here.words;
-  tree = here.tree;
-  some = Either.left here.some;
-  got = λ s t a e. name_got f g L M c P here there s t a (sees_name s) refl e;
-  stuck = λ s t e. name_stuck f g L M c P here there s t (sees_name s) refl e;
-  whole = name_whole f g L M c P here there named unnamed;
-}
+rule_at_name here there named unnamed = rule_branch sees_name (λ x s t. refl) here there named unnamed
+
+-- ---- a mark, or something else
+
+ahead_alike_at : {A : Type 0} (b : Bool) (r s : Outcome A) (t : List Lexeme) → (if b then r else s) ≡ (if b then (if b then r else Err t) else s)
+ahead_alike_at true r s t = refl
+ahead_alike_at false r s t = refl
+
+ahead_alike : {A : Type 0} (m : Mark) (f : ℕ → Reader A) (g : Reader A) (s : List Lexeme) → ahead_at m f g s ≡ branch (sees m) (ahead_at m f refuse) g s
+ahead_alike m f g s = ahead_alike_at (sees m s) (f (place s) (drop 1 s)) (g s) s
+
+to_ahead : {A : Type 0} (m : Mark) (L : ℕ → List Lexeme → A → Type 0) (M : List Lexeme → A → Type 0) (u : List Lexeme) (a : A) → Either (Only m L) M u a → Ahead m L M u a
+to_ahead m L M u a (Either.left (Only.only p l)) = Ahead.this p l
+to_ahead m L M u a (Either.right l) = Ahead.other l
+
+of_ahead : {A : Type 0} (m : Mark) (L : ℕ → List Lexeme → A → Type 0) (M : List Lexeme → A → Type 0) (u : List Lexeme) (a : A) → Ahead m L M u a → Either (Only m L) M u a
+of_ahead m L M u a (Ahead.this p l) = Either.left (Only.only p l)
+of_ahead m L M u a (Ahead.other l) = Either.right l
+
+only_seen : {A : Type 0} (m : Mark) (L : ℕ → List Lexeme → A → Type 0) (u : List Lexeme) (a : A) (t : List Lexeme) → Only m L u a → sees m (u ++ t) ≡ true
+only_seen m L u a t (Only.only p l) = mark_self m
+
+pub rule_ahead : {A : Type 0} {m : Mark} {f : ℕ → Reader A} {g : Reader A} {L : ℕ → List Lexeme → A → Type 0} {M : List Lexeme → A → Type 0} {c : Lexeme → Bool} {P Q : ℕ → Type 0}
+    → ((p : ℕ) → Rule (f p) (L p) c Q) → Rule g M c P → ((i : ℕ) → P (suc i) → Q i)
+    → ((u : List Lexeme) (a : A) (t : List Lexeme) → M u a → Stops c t → sees m (u ++ t) ≡ false) → Rule (ahead_at m f g) (Ahead m L M) c P
+rule_ahead {m = m} {f = f} {g = g} {L = L} {M = M} {P = P} here there shorter apart =
+    rule_alike (ahead_at m f g) (ahead_alike m f g) (rule_iso (to_ahead m L M) (of_ahead m L M) (rule_branch (sees m) (λ x s t. refl) (rule_only P here shorter) there (only_seen m L) apart))
+
+-- ---- a comparison, or something else
 
 pub data Compared {A : Type 0} (L : Op → List Lexeme → A → Type 0) (M : List Lexeme → A → Type 0) : List Lexeme → A → Type 0 where
   compared : (o : Op) (p : ℕ) {u : List Lexeme} {a : A} → L o u a → Compared L M (compare o p ∷ u) a
   uncompared : {u : List Lexeme} {a : A} → M u a → Compared L M u a
-
-compare_alike : (x : Lexeme) (s t : List Lexeme) → sees_compare (x ∷ s) ≡ sees_compare (x ∷ t)
-compare_alike x s t = refl
 
 word_of_compare : (o : Op) (v : Word) → comparison v ≡ Some o → v ≡ w.Compare o
 word_of_compare o (w.Compare k) e = let q : k ≡ o = cc in ap w.Compare q
@@ -567,77 +533,46 @@ word_of_compare o (w.Text t) e = cc
 pub is_the_compare : (o : Op) (x : Lexeme) → comparison x.word ≡ Some o → x ≡ compare o x.at
 is_the_compare o x e = let f : Word → Lexeme = λ v. record { word = v; at = x.at } in ap f (word_of_compare o x.word e)
 
-module _ {A : Type 0} (f : Op → Reader A) (g : Reader A) (L : Op → List Lexeme → A → Type 0) (M : List Lexeme → A → Type 0) (c : Lexeme → Bool) (P Q : ℕ → Type 0)
-    (here : (o : Op) → Rule (f o) (L o) c Q) (there : Rule g M c P) where
-  compare_got : (s t : List Lexeme) (a : A) (v : Option Op) → sees_compare s ≡ v → at_compare f g s ≡ Ok (a, t) → Got (at_compare f g) (Compared L M) s a t
-  compare_got s t a None h e =
-      let one : Got g M s a t = there.got s t a (rw (h, at_compare) at e) in
-      record {
-        front = one.front;
-        split = one.split;
-        gives = Compared.uncompared one.gives;
-        same = λ x v w d. rw (same_first sees_compare compare_alike one.front s t v w x one.split d ∙ h, at_compare) (one.same x v w d);
-      }
-  compare_got [] t a (Some o) h e = absurd (cc)
-  compare_got (y ∷ s) t a (Some o) h e =
-      let one : Got (f o) (L o) s a t = (here o).got s t a (rw (h, at_compare) at e) in
-      record {
-        front = y ∷ one.front;
-        split = ap (λ z. y ∷ z) one.split;
-        gives = subst (λ z. Compared L M (z ∷ one.front) a) (sym (is_the_compare o y h)) (Compared.compared o y.at one.gives);
-        same = λ x v w d. rw (h, at_compare) (one.same x v w d);
-      }
+abbrev compared_word : Lexeme → Option Op
+compared_word x = comparison x.word
 
-  compare_stuck : (s t : List Lexeme) (v : Option Op) → sees_compare s ≡ v → at_compare f g s ≡ Err t → Stuck (at_compare f g) (Compared L M) s t
-  compare_stuck s t None h e =
-      let one : Stuck g M s t = there.stuck s t (rw (h, at_compare) at e) in
-      record {
-        front = one.front;
-        split = one.split;
-        more = one.more;
-        tree = one.tree;
-        gives = Compared.uncompared one.gives;
-        same = λ x v w d. rw (same_first sees_compare compare_alike one.front s t v w x one.split d ∙ h, at_compare) (one.same x v w d);
-      }
-  compare_stuck [] t (Some o) h e = absurd (cc)
-  compare_stuck (y ∷ s) t (Some o) h e =
-      let one : Stuck (f o) (L o) s t = (here o).stuck s t (rw (h, at_compare) at e) in
-      record {
-        front = y ∷ one.front;
-        split = ap (λ z. y ∷ z) one.split;
-        more = one.more;
-        tree = one.tree;
-        gives = subst (λ z. Compared L M (z ∷ (one.front ++ one.more)) one.tree) (sym (is_the_compare o y h)) (Compared.compared o y.at one.gives);
-        same = λ x v w d. rw (h, at_compare) (one.same x v w d);
-      }
+abbrev compares : List Lexeme → Bool
+compares s = elim (sees_compare s) [ Some o ↦ true | None ↦ false ]
 
-  compare_this : ((i : ℕ) → P (suc i) → Q i) → (o : Op) (p : ℕ) (s : List Lexeme) (a : A) (t : List Lexeme) → Whole (f o) Q s a t → Whole (at_compare f g) P (compare o p ∷ s) a t
-  compare_this shorter o p s a t (inl e) = inl e
-  compare_this shorter o p s a t (inr k) = inr (record {
-    front = compare o p ∷ k.front;
-    rest = k.rest;
-    split = ap (λ z. compare o p ∷ z) k.split;
-    stops = k.stops;
-    late = λ q. k.late (shorter (length k.front) q);
-  })
+compare_only_at : {A : Type 0} (o : Option Op) (f : Op → Reader A) (x : Lexeme) (s : List Lexeme)
+    → (let r : Outcome A = elim o [ Some p ↦ f p s | None ↦ Err (x ∷ s) ] in r) ≡ and_then (elim o [ Some p ↦ Ok (p, s) | None ↦ Err (x ∷ s) ]) f
+compare_only_at (Some p) f x s = refl
+compare_only_at None f x s = refl
 
-  compare_other : (s : List Lexeme) (a : A) (t : List Lexeme) → sees_compare s ≡ None → Whole g P s a t → Whole (at_compare f g) P s a t
-  compare_other s a t h (inl e) = inl (rw (h, at_compare) e)
-  compare_other s a t h (inr k) = inr (record { front = k.front; rest = k.rest; split = k.split; stops = rw (h, at_compare) k.stops; late = k.late })
+compare_only : {A : Type 0} (f : Op → Reader A) (s : List Lexeme) → at_compare f refuse s ≡ (by_test compared_word >>= f) s
+compare_only f [] = refl
+compare_only f (x ∷ s) = compare_only_at (comparison x.word) f x s
 
-  compare_whole : ((i : ℕ) → P (suc i) → Q i) → ((u : List Lexeme) (a : A) (t : List Lexeme) → M u a → Stops c t → sees_compare (u ++ t) ≡ None)
-      → (w : List Lexeme) (a : A) → Compared L M w a → (t : List Lexeme) → Stops c t → Whole (at_compare f g) P (w ++ t) a t
-  compare_whole shorter apart w a (Compared.compared o p {u} l) t st = compare_this shorter o p (u ++ t) a t ((here o).whole u a l t st)
-  compare_whole shorter apart w a (Compared.uncompared l) t st = compare_other (w ++ t) a t (apart w a t l st) (there.whole w a l t st)
+compare_alike_at : {A : Type 0} (o : Option Op) (f : Op → Reader A) (g : Reader A) (r s : List Lexeme)
+    → (let z : Outcome A = elim o [ Some p ↦ f p r | None ↦ g s ] in z) ≡ (if (elim o [ Some p ↦ true | None ↦ false ]) then (elim o [ Some p ↦ f p r | None ↦ Err s ]) else g s)
+compare_alike_at (Some p) f g r s = refl
+compare_alike_at None f g r s = refl
+
+compare_alike : {A : Type 0} (f : Op → Reader A) (g : Reader A) (s : List Lexeme) → at_compare f g s ≡ branch compares (at_compare f refuse) g s
+compare_alike f g s = compare_alike_at (sees_compare s) f g (drop 1 s) s
+
+to_compared : {A : Type 0} (L : Op → List Lexeme → A → Type 0) (M : List Lexeme → A → Type 0) (u : List Lexeme) (a : A) → Either (Seq (Tested compared_word) L) M u a → Compared L M u a
+to_compared L M w b (Either.left (Seq.seq {v = v} (Tested.tested x o e) l)) = subst (λ z. Compared L M (z ∷ v) b) (sym (is_the_compare o x e)) (Compared.compared o x.at l)
+to_compared L M w b (Either.right l) = Compared.uncompared l
+
+of_compared : {A : Type 0} (L : Op → List Lexeme → A → Type 0) (M : List Lexeme → A → Type 0) (u : List Lexeme) (a : A) → Compared L M u a → Either (Seq (Tested compared_word) L) M u a
+of_compared L M u a (Compared.compared o p l) = Either.left (Seq.seq (Tested.tested (compare o p) o refl) l)
+of_compared L M u a (Compared.uncompared l) = Either.right l
+
+compare_seen : {A : Type 0} (L : Op → List Lexeme → A → Type 0) (u : List Lexeme) (a : A) (t : List Lexeme) → Seq (Tested compared_word) L u a → compares (u ++ t) ≡ true
+compare_seen L w b t (Seq.seq (Tested.tested x o e) l) = rw (e, compares) refl
 
 pub rule_at_compare : {A : Type 0} {f : Op → Reader A} {g : Reader A} {L : Op → List Lexeme → A → Type 0} {M : List Lexeme → A → Type 0} {c : Lexeme → Bool} {P Q : ℕ → Type 0}
     → ((o : Op) → Rule (f o) (L o) c Q) → Rule g M c P → ((i : ℕ) → P (suc i) → Q i)
     → ((u : List Lexeme) (a : A) (t : List Lexeme) → M u a → Stops c t → sees_compare (u ++ t) ≡ None) → Rule (at_compare f g) (Compared L M) c P
-rule_at_compare {f = f} {g = g} {L = L} {M = M} {c = c} {P = P} {Q = Q} here there shorter apart = record {
-  words = there.words;
-  tree = there.tree;
-  some = Compared.uncompared there.some;
-  got = λ s t a e. compare_got f g L M c P Q here there s t a (sees_compare s) refl e;
-  stuck = λ s t e. compare_stuck f g L M c P Q here there s t (sees_compare s) refl e;
-  whole = compare_whole f g L M c P Q here there shorter apart;
-}
+rule_at_compare {f = f} {g = g} {L = L} {M = M} {P = P} {Q = Q} here there shorter apart =
+    rule_alike (at_compare f g) (compare_alike f g) (rule_iso (to_compared L M) (of_compared L M)
+    (rule_branch compares (λ x s t. refl)
+    (rule_alike (at_compare f refuse) (compare_only f)
+    (rule_behind P (rule_test {c = never} {P = P} compared_word (compare op.Eq 0) op.Eq refl) here (λ i p. p) (one_word compared_word P Q shorter) (λ a v b t l st. never_stops (v ++ t))))
+    there (compare_seen L) (λ u a t l st. rw (apart u a t l st, compares) refl)))

@@ -2,9 +2,10 @@
 use Rattle.std.proofs.Common.{◌≡◌, ℕ, Bool, true, false, cond, if◌then◌else◌, List, [], ◌∷◌, ◌++◌, refl, append_assoc}
 use Rattle.hr_parse.specs.declared.word.Mark.{Mark}
 use Rattle.hr_parse.specs.declared.word.Mark.TheVariants as m
+use Rattle.hr_parse.specs.declared.word.Sign.TheVariants as sign_of
 use Rattle.hr_parse.specs.declared.word.Lexeme.{Lexeme}
 use Rattle.hr_parse.specs.Words.{is_mark, mark}
-use Rattle.hr_parse.specs.Reading.{sees}
+use Rattle.hr_parse.specs.Readers.{sees}
 use Rattle.hr_parse.specs.Grammar.{Optional}
 use Rattle.hr_parse.proofs.Marks.{is_the_mark}
 use Rattle.hr_parse.proofs.Rules.{Stops, Seq, Map, IsMark}
@@ -29,18 +30,26 @@ stops_rest k ks (x ∷ t) st = (cond_false (is_mark k x.word) (any ks x) st).1
 -- ---- the end, or a `;`
 
 abbrev pub ending : Lexeme → Bool
-ending x = if is_mark m.Semicolon x.word then false else true
+ending x = if is_mark (m.Sign sign_of.Semicolon) x.word then false else true
 
 cond_true : (b : Bool) → cond b false true ≡ false → b ≡ true
 cond_true true e = refl
 cond_true false e = absurd (cc)
 
-pub at_end : (x : Lexeme) → ending x ≡ false → x ≡ mark m.Semicolon x.at
-at_end x e = is_the_mark m.Semicolon x (cond_true (is_mark m.Semicolon x.word) e)
+pub at_end : (x : Lexeme) → ending x ≡ false → x ≡ mark (m.Sign sign_of.Semicolon) x.at
+at_end x e = is_the_mark (m.Sign sign_of.Semicolon) x (cond_true (is_mark (m.Sign sign_of.Semicolon) x.word) e)
 
-pub stops_end : (c : Lexeme → Bool) → ((p : ℕ) → c (mark m.Semicolon p) ≡ false) → (t : List Lexeme) → Stops ending t → Stops c t
+pub stops_end : (c : Lexeme → Bool) → ((p : ℕ) → c (mark (m.Sign sign_of.Semicolon) p) ≡ false) → (t : List Lexeme) → Stops ending t → Stops c t
 stops_end c e [] st = tt
 stops_end c e (x ∷ t) st = rw (at_end x st) (e x.at)
+
+-- stopped by any word
+abbrev pub nothing_more : Lexeme → Bool
+nothing_more x = true
+
+pub stops_all : (c : Lexeme → Bool) (t : List Lexeme) → Stops nothing_more t → Stops c t
+stops_all c [] st = tt
+stops_all c (x ∷ t) st = absurd (cc)
 
 -- ---- what stops before a part: a part that begins with a word that stops, or that may be nothing
 

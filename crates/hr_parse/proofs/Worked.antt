@@ -1,16 +1,18 @@
--- Worked statements.
-use Rattle.std.proofs.Common.{[], ◌∷◌, codes, None, refl, arith}
+-- Worked statements and tuples.
+use Rattle.std.proofs.Common.{◌≡◌, [], ◌∷◌, codes, None, refl}
 use Rattle.hr_lex.specs.Keywords.{keyword}
 use Rattle.hr_lex.specs.Tokens.{token_at}
 use Rattle.hr_lex.specs.declared.token.LexError.TheVariants as l
 use Rattle.hr_parse.specs.declared.ast.Ast.{Ast}
 use Rattle.hr_parse.specs.declared.ast.Ast.TheVariants as ast
+use Rattle.hr_parse.specs.declared.ast.LitAst.TheVariants as lit
+use Rattle.hr_parse.specs.declared.ast.TupleAst.{TupleAst}
+use Rattle.hr_parse.specs.declared.parsing.ParseError.TheVariants as e
 use Rattle.hr_parse.specs.Grammar.{Optional, IsName, IsDelete, IsCommand, IsStatement}
-use Rattle.hr_parse.specs.declared.texts.ParseError.TheVariants as e
-use Rattle.hr_parse.specs.Words.{number, same_mark}
-use Rattle.hr_parse.specs.Reading.{name, delete, filter, command, statement}
-use Rattle.hr_parse.specs.Parse.{IsTextOf, UnexpectedAt, Unended, TextRefused, words}
-use Rattle.hr_parse.proofs.Whole.{refused, cause_end, cause_word}
+use Rattle.hr_parse.specs.Words.{same_mark}
+use Rattle.hr_parse.specs.Readers.{name, literal, listed_behind, tuple, only_tuple, delete, filter, command, terminated, statement}
+use Rattle.hr_parse.specs.Parse.{IsTextOf, TextRefused, IsTupleFrom, TupleRefused, parsed, parsed_tuple}
+use Rattle.hr_parse.proofs.Texts.{parsed_refused, tuple_tree, tuple_refused}
 
 abbrev pub delete_all : Ast
 delete_all = ast.Delete (record { table = record { name = codes "t"; at = 12 }; filter = None })
@@ -20,19 +22,29 @@ pub a_delete : IsTextOf (codes "delete from T;") delete_all
 unfolding token_at keyword
 a_delete = (refl, IsStatement.ended 13 (IsCommand.delete 0 (IsDelete.delete 7 (IsName.name (codes "t") 12) Optional.none)))
 
--- ---- refused texts
-
 -- the words go on to a statement, and are none
-pub unended : Unended (words (codes "DELETE FROM"))
-unfolding token_at keyword same_mark name delete filter command statement
-unended = cause_end (words (codes "DELETE FROM")) [] (refused 14 (words (codes "DELETE FROM")) [] (omega arith) refl) (omega arith)
+pub unended : TextRefused (codes "DELETE FROM") (e.Unexpected 11)
+unfolding token_at keyword same_mark name delete filter command terminated statement parsed
+unended = parsed_refused (codes "DELETE FROM") (e.Unexpected 11) refl
 
 -- a number is no table's name
-pub unexpected : UnexpectedAt 12 (words (codes "DELETE FROM 1"))
-unfolding token_at keyword same_mark name delete filter command statement
-unexpected = cause_word (words (codes "DELETE FROM 1")) (number 1 12 ∷ []) (number 1 12) (refused 18 (words (codes "DELETE FROM 1")) (number 1 12 ∷ []) (omega arith) refl) (omega arith)
+pub unexpected : TextRefused (codes "DELETE FROM 1") (e.Unexpected 12)
+unfolding token_at keyword same_mark name delete filter command terminated statement parsed
+unexpected = parsed_refused (codes "DELETE FROM 1") (e.Unexpected 12) refl
 
 -- an error of the tokens, where the words before it can go on
 pub no_token : TextRefused (codes "DELETE FROM #") (e.Lex (l.BadChar 12))
-unfolding token_at keyword same_mark name delete filter command statement
-no_token = (refl, unended.0)
+unfolding token_at keyword same_mark name delete filter command terminated statement parsed
+no_token = parsed_refused (codes "DELETE FROM #") (e.Lex (l.BadChar 12)) refl
+
+-- ---- tuples
+
+-- the text `row t (NULL)` is a tuple from its parenthesis on
+pub a_tuple : IsTupleFrom 6 (codes "row t (NULL)") (record { values = record { value = lit.Null; at = 7 } ∷ []; at = 6 })
+unfolding token_at keyword same_mark literal listed_behind tuple only_tuple parsed_tuple
+a_tuple = (tuple_tree 6 (codes "row t (NULL)") (record { values = record { value = lit.Null; at = 7 } ∷ []; at = 6 })).0 refl
+
+-- whatever stands behind it is unexpected
+pub two_tuples : TupleRefused 6 (codes "row t (NULL);") (e.Unexpected 12)
+unfolding token_at keyword same_mark literal listed_behind tuple only_tuple parsed_tuple
+two_tuples = tuple_refused 6 (codes "row t (NULL);") (e.Unexpected 12) refl

@@ -1,53 +1,16 @@
 -- What tokens say, as words.
 use Rattle.std.specs.Prelude.{ℕ, ◌-◌, Bool, true, false, ◌==◌, List, [], ◌∷◌, map, length, take, drop}
 use Rattle.std.specs.Str.{str_to_ascii_lowercase}
-use Rattle.hr_lex.specs.declared.token.Keyword.{Keyword}
-use Rattle.hr_lex.specs.declared.token.Keyword.TheVariants as k
 use Rattle.hr_lex.specs.declared.token.Token.{Token}
 use Rattle.hr_lex.specs.declared.token.TokenKind.{TokenKind}
 use Rattle.hr_lex.specs.declared.token.TokenKind.TheVariants as t
 use Rattle.hr_lex.specs.Tokens.{written}
 use Rattle.hr_rel.specs.declared.expr.Op.TheVariants as op
-use Rattle.hr_parse.specs.declared.word.Mark.{Mark}
 use Rattle.hr_parse.specs.declared.word.Mark.TheVariants as m
+use Rattle.hr_parse.specs.declared.word.Sign.TheVariants as sign_of
 use Rattle.hr_parse.specs.declared.word.Word.{Word}
 use Rattle.hr_parse.specs.declared.word.Word.TheVariants as w
 use Rattle.hr_parse.specs.declared.word.Lexeme.{Lexeme}
-
-abbrev pub mark_of : Keyword → Mark
-mark_of k.Select = m.Select
-mark_of k.From = m.From
-mark_of k.Inner = m.Inner
-mark_of k.Join = m.Join
-mark_of k.On = m.On
-mark_of k.Where = m.Where
-mark_of k.Group = m.Group
-mark_of k.By = m.By
-mark_of k.Insert = m.Insert
-mark_of k.Into = m.Into
-mark_of k.Values = m.Values
-mark_of k.Update = m.Update
-mark_of k.Set = m.Set
-mark_of k.Delete = m.Delete
-mark_of k.And = m.And
-mark_of k.Or = m.Or
-mark_of k.Not = m.Not
-mark_of k.Is = m.Is
-mark_of k.Null = m.Null
-mark_of k.Between = m.Between
-mark_of k.In = m.In
-mark_of k.As = m.As
-mark_of k.Count = m.Count
-mark_of k.Sum = m.Sum
-mark_of k.Min = m.Min
-mark_of k.Max = m.Max
-mark_of k.Begin = m.Begin
-mark_of k.Commit = m.Commit
-mark_of k.Rollback = m.Rollback
-mark_of k.Order = m.Order
-mark_of k.Limit = m.Limit
-mark_of k.Asc = m.Asc
-mark_of k.Desc = m.Desc
 
 -- Each doubled quote once. The test says that the byte before is the first quote of a pair.
 abbrev pub undoubled : Bool → List ℕ → List ℕ
@@ -61,18 +24,18 @@ between_quotes bytes = take (length bytes - 2) (drop 1 bytes)
 
 -- what a token of a kind says, on these bytes: a name in small letters, a text without its quotes, `!=` as `<>`
 abbrev pub word_of : List ℕ → TokenKind → Word
-word_of bytes (t.Keyword k) = w.Fixed (mark_of k)
+word_of bytes (t.Keyword k) = w.Fixed (m.Keyword k)
 word_of bytes t.Name = w.Name (str_to_ascii_lowercase bytes)
 word_of bytes (t.Number n) = w.Number n
 word_of bytes t.Text = w.Text (undoubled false (between_quotes bytes))
-word_of bytes t.LeftParen = w.Fixed m.LeftParen
-word_of bytes t.RightParen = w.Fixed m.RightParen
-word_of bytes t.Comma = w.Fixed m.Comma
-word_of bytes t.Dot = w.Fixed m.Dot
-word_of bytes t.Semicolon = w.Fixed m.Semicolon
-word_of bytes t.Star = w.Fixed m.Star
-word_of bytes t.Plus = w.Fixed m.Plus
-word_of bytes t.Minus = w.Fixed m.Minus
+word_of bytes t.LeftParen = w.Fixed (m.Sign sign_of.LeftParen)
+word_of bytes t.RightParen = w.Fixed (m.Sign sign_of.RightParen)
+word_of bytes t.Comma = w.Fixed (m.Sign sign_of.Comma)
+word_of bytes t.Dot = w.Fixed (m.Sign sign_of.Dot)
+word_of bytes t.Semicolon = w.Fixed (m.Sign sign_of.Semicolon)
+word_of bytes t.Star = w.Fixed (m.Sign sign_of.Star)
+word_of bytes t.Plus = w.Fixed (m.Sign sign_of.Plus)
+word_of bytes t.Minus = w.Fixed (m.Sign sign_of.Minus)
 word_of bytes t.Equal = w.Compare op.Eq
 word_of bytes t.NotEqual = w.Compare op.Ne
 word_of bytes t.BangEqual = w.Compare op.Ne

@@ -2,5 +2,5 @@ pub mod Words
 pub mod Trees
 pub mod Lexemes
 pub mod Grammar
-pub mod Reading
+pub mod Readers
 pub mod Parse

@@ -5,6 +5,8 @@ use Rattle.hr_parse.specs.declared.ast.OperandAst.TheVariants as operand
 use Rattle.hr_parse.specs.declared.ast.ExprAst.{ExprAst, out-ExprAst, roll-ExprAst}
 use Rattle.hr_parse.specs.declared.ast.ExprKind.{ExprKind}
 use Rattle.hr_parse.specs.declared.ast.ExprKind.TheVariants as kind
+use Rattle.hr_parse.specs.declared.expr.Operator.{Operator}
+use Rattle.hr_parse.specs.declared.expr.Operator.TheVariants as op
 
 -- an expression of this kind at a place
 abbrev pub expr : ExprKind → ℕ → ExprAst
@@ -22,6 +24,11 @@ difference a b = expr (kind.Sub a b) (place_of a)
 
 abbrev pub product : ExprAst → ExprAst → ExprAst
 product a b = expr (kind.Mul a b) (place_of a)
+
+abbrev pub binary : Operator → ExprAst → ExprAst → ExprAst
+binary op.Add a b = sum a b
+binary op.Sub a b = difference a b
+binary op.Mul a b = product a b
 
 -- the same expression, with its opening parenthesis at a place
 abbrev pub placed : ExprAst → ℕ → ExprAst

@@ -1,6 +1,9 @@
 //! The syntax tree of a statement. It keeps no parentheses, no `;` and no case, and has `<>` for `!=`.
 //!
 //! A field `at` is the place in the text of the part's first token, with opening parentheses counted in.
+//!
+//! The nodes of conditions and expressions are small, with their parts boxed: so a function that calls itself for each
+//! level of a tree, as dropping it does, needs little stack.
 
 use hr_rel::{Name, Op, Seq};
 use sqlite_items::Boxed;
@@ -115,19 +118,19 @@ pub enum CondAst {
     Or(Boxed<CondAst>, Boxed<CondAst>),
     And(Boxed<CondAst>, Boxed<CondAst>),
     Not(Boxed<CondAst>),
-    Compare(Op, OperandAst, OperandAst),
+    Compare(Op, Boxed<OperandAst>, Boxed<OperandAst>),
     IsNull {
-        operand: OperandAst,
+        operand: Boxed<OperandAst>,
         negated: bool,
     },
     Between {
-        operand: OperandAst,
-        low: OperandAst,
-        high: OperandAst,
+        operand: Boxed<OperandAst>,
+        low: Boxed<OperandAst>,
+        high: Boxed<OperandAst>,
         negated: bool,
     },
     Among {
-        operand: OperandAst,
+        operand: Boxed<OperandAst>,
         list: Seq<LiteralAst>,
         negated: bool,
     },
@@ -149,8 +152,8 @@ pub struct ExprAst {
 #[cycle(expr)]
 #[derive(Drop)]
 pub enum ExprKind {
-    Literal(LiteralAst),
-    Column(ColumnAst),
+    Literal(Boxed<LiteralAst>),
+    Column(Boxed<ColumnAst>),
     Add(Boxed<ExprAst>, Boxed<ExprAst>),
     Sub(Boxed<ExprAst>, Boxed<ExprAst>),
     Mul(Boxed<ExprAst>, Boxed<ExprAst>),

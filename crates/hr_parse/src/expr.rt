@@ -1,146 +1,129 @@
-//! Expressions. Each rule that may hold itself goes one level deeper.
+//! Expressions. A parenthesis goes one level deeper; `*`, `+` and `-` are read by loops.
 
 ghost use Rattle.std.specs.Prelude.{◌≡◌, IfOk};
-ghost use Rattle.hr_parse.specs.Reading as spec;
-ghost use Rattle.hr_parse.specs.Reading.{Reads};
+ghost use Rattle.hr_parse.specs.Readers as spec;
+ghost use Rattle.hr_parse.specs.Readers.{Reads};
 ghost use Rattle.hr_parse.specs.Trees as tree;
 
 use crate::ast::{ExprAst, ExprKind, OperandAst};
-use crate::word::Mark;
-use crate::words::{Stop, Words, deeper};
+use crate::parser::{Parser, Stop, deeper};
+use crate::word::{Mark, Sign};
 use sqlite_items::Boxed;
 use std::alloc::{AllocError, Global};
 
-fn sum(alloc: Global, left: ExprAst, right: ExprAst) -> Result<ExprAst, AllocError>
-    ensures { IfOk result (λ e. e ≡ tree.sum left right) }
-{
-    let at = left.at;
-    let left = Boxed::new(alloc, left)?;
-    let kind = ExprKind::Add(left, Boxed::new(alloc, right)?);
-    Ok(ExprAst { kind, at })
+#[derive(Clone, Copy)]
+enum Operator {
+    Add,
+    Sub,
+    Mul,
 }
 
-fn difference(alloc: Global, left: ExprAst, right: ExprAst) -> Result<ExprAst, AllocError>
-    ensures { IfOk result (λ e. e ≡ tree.difference left right) }
+/// The expression of an operator, which begins where its left part does.
+fn binary(
+    alloc: Global,
+    operator: Operator,
+    left: Boxed<ExprAst>,
+    right: Boxed<ExprAst>,
+) -> Result<Boxed<ExprAst>, AllocError>
+    ensures { IfOk result (λ e. e ≡ tree.binary operator left right) }
 {
-    let at = left.at;
-    let left = Boxed::new(alloc, left)?;
-    let kind = ExprKind::Sub(left, Boxed::new(alloc, right)?);
-    Ok(ExprAst { kind, at })
-}
-
-fn product(alloc: Global, left: ExprAst, right: ExprAst) -> Result<ExprAst, AllocError>
-    ensures { IfOk result (λ e. e ≡ tree.product left right) }
-{
-    let at = left.at;
-    let left = Boxed::new(alloc, left)?;
-    let kind = ExprKind::Mul(left, Boxed::new(alloc, right)?);
-    Ok(ExprAst { kind, at })
+    let at = left.get().at;
+    let kind = match operator {
+        Operator::Add => ExprKind::Add(left, right),
+        Operator::Sub => ExprKind::Sub(left, right),
+        Operator::Mul => ExprKind::Mul(left, right),
+    };
+    Boxed::new(alloc, ExprAst { kind, at })
 }
 
 /// The expression that begins at `at`, with its opening parenthesis.
-fn placed(inner: ExprAst, at: u32) -> ExprAst
-    ensures { result ≡ tree.placed inner at }
+fn placed(alloc: Global, inner: Boxed<ExprAst>, at: u32) -> Result<Boxed<ExprAst>, AllocError>
+    ensures { IfOk result (λ e. e ≡ tree.placed inner at) }
 {
-    let ExprAst { kind, at: _ } = inner;
-    ExprAst { kind, at }
+    let ExprAst { kind, at: _ } = inner.into_inner();
+    Boxed::new(alloc, ExprAst { kind, at })
 }
 
 /// An operand as an expression.
-fn simple(operand: OperandAst) -> ExprAst
-    ensures { result ≡ tree.simple operand }
+fn simple(alloc: Global, operand: OperandAst) -> Result<Boxed<ExprAst>, AllocError>
+    ensures { IfOk result (λ e. e ≡ tree.simple operand) }
 {
     match operand {
         OperandAst::Column(column) => {
             let at = column.first.at;
-            ExprAst {
-                kind: ExprKind::Column(column),
-                at,
-            }
+            let kind = ExprKind::Column(Boxed::new(alloc, column)?);
+            Boxed::new(alloc, ExprAst { kind, at })
         }
         OperandAst::Literal(literal) => {
             let at = literal.at;
-            ExprAst {
-                kind: ExprKind::Literal(literal),
-                at,
-            }
+            let kind = ExprKind::Literal(Boxed::new(alloc, literal)?);
+            Boxed::new(alloc, ExprAst { kind, at })
         }
     }
 }
 
-impl<'a> Words<'a> {
+impl<'a> Parser<'a> {
     /// `factor = literal | column | "(" expr ")"`
     #[cycle(terms)]
-    #[tactic(auto, unfolding(crate::specs::Reading::factor))]
-    fn factor(&mut self, alloc: Global, depth: usize) -> Result<ExprAst, Stop>
+    #[tactic(auto, unfolding(crate::specs::Readers::factor))]
+    fn factor(&mut self, depth: usize) -> Result<Boxed<ExprAst>, Stop>
         ensures { Reads (spec.factor depth self.old.rest.now) result self.new.rest.now }
     {
         let depth = deeper(depth)?;
-        let at = self.place();
-        if self.eat(Mark::LeftParen) {
-            let inner = self.expr(alloc, depth)?;
-            self.expect(Mark::RightParen)?;
-            Ok(placed(inner, at))
+        if let Some(at) = self.eat_at(Mark::Sign(Sign::LeftParen)) {
+            let inner = self.boxed_expr(depth)?;
+            self.expect(Mark::Sign(Sign::RightParen))?;
+            Ok(placed(self.alloc, inner, at)?)
         } else {
-            Ok(simple(self.operand(alloc)?))
+            let operand = self.operand()?;
+            Ok(simple(self.alloc, operand)?)
         }
     }
 
     /// `term = factor { "*" factor }`
     #[cycle(terms)]
-    #[tactic(auto, unfolding(crate::specs::Reading::factor))]
-    fn term(&mut self, alloc: Global, depth: usize) -> Result<ExprAst, Stop>
+    #[tactic(auto, unfolding(crate::specs::Readers::factor))]
+    fn term(&mut self, depth: usize) -> Result<Boxed<ExprAst>, Stop>
         ensures { Reads (spec.term depth self.old.rest.now) result self.new.rest.now }
     {
         let depth = deeper(depth)?;
-        let first = self.factor(alloc, depth)?;
-        self.term_behind(alloc, depth, first)
-    }
-
-    /// `{ "*" factor }`, behind what was read so far.
-    #[cycle(terms)]
-    #[tactic(auto, unfolding(crate::specs::Reading::factor))]
-    fn term_behind(&mut self, alloc: Global, depth: usize, left: ExprAst) -> Result<ExprAst, Stop>
-        ensures { Reads (spec.term_behind depth left self.old.rest.now) result self.new.rest.now }
-    {
-        let depth = deeper(depth)?;
-        if self.eat(Mark::Star) {
-            let right = self.factor(alloc, depth)?;
-            let left = product(alloc, left, right)?;
-            self.term_behind(alloc, depth, left)
-        } else {
-            Ok(left)
+        let mut left = self.factor(depth)?;
+        let mut turns = deeper(depth)?;
+        'factors: while self.eat(Mark::Sign(Sign::Star)) {
+            let right = self.factor(turns)?;
+            left = binary(self.alloc, Operator::Mul, left, right)?;
+            turns = deeper(turns)?;
         }
+        Ok(left)
     }
 
     /// `expr = term { ( "+" | "-" ) term }`
     #[cycle(terms)]
-    #[tactic(auto, unfolding(crate::specs::Reading::factor))]
-    pub fn expr(&mut self, alloc: Global, depth: usize) -> Result<ExprAst, Stop>
+    #[tactic(auto, unfolding(crate::specs::Readers::factor))]
+    fn boxed_expr(&mut self, depth: usize) -> Result<Boxed<ExprAst>, Stop>
         ensures { Reads (spec.expr depth self.old.rest.now) result self.new.rest.now }
     {
         let depth = deeper(depth)?;
-        let first = self.term(alloc, depth)?;
-        self.expr_behind(alloc, depth, first)
+        let mut left = self.term(depth)?;
+        let mut turns = depth;
+        'terms: loop {
+            turns = deeper(turns)?;
+            if self.eat(Mark::Sign(Sign::Plus)) {
+                let right = self.term(turns)?;
+                left = binary(self.alloc, Operator::Add, left, right)?;
+            } else if self.eat(Mark::Sign(Sign::Minus)) {
+                let right = self.term(turns)?;
+                left = binary(self.alloc, Operator::Sub, left, right)?;
+            } else {
+                return Ok(left);
+            }
+        }
     }
 
-    /// `{ ( "+" | "-" ) term }`, behind what was read so far.
-    #[cycle(terms)]
-    #[tactic(auto, unfolding(crate::specs::Reading::factor))]
-    fn expr_behind(&mut self, alloc: Global, depth: usize, left: ExprAst) -> Result<ExprAst, Stop>
-        ensures { Reads (spec.expr_behind depth left self.old.rest.now) result self.new.rest.now }
+    /// An expression.
+    pub fn expr(&mut self, depth: usize) -> Result<ExprAst, Stop>
+        ensures { Reads (spec.expr depth self.old.rest.now) result self.new.rest.now }
     {
-        let depth = deeper(depth)?;
-        if self.eat(Mark::Plus) {
-            let right = self.term(alloc, depth)?;
-            let left = sum(alloc, left, right)?;
-            self.expr_behind(alloc, depth, left)
-        } else if self.eat(Mark::Minus) {
-            let right = self.term(alloc, depth)?;
-            let left = difference(alloc, left, right)?;
-            self.expr_behind(alloc, depth, left)
-        } else {
-            Ok(left)
-        }
+        Ok(self.boxed_expr(depth)?.into_inner())
     }
 }

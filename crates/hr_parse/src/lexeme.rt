@@ -1,55 +1,16 @@
 //! Tokens as words.
 
-ghost use Rattle.std.specs.Prelude.{◌≡◌, ◌≤◌, false, map, length, IfOk};
+ghost use Rattle.std.specs.Prelude.{◌≡◌, ◌≤◌, ◌<◌, ◌+◌, ◌^◌, ◌⊎◌, false, map, length, IfOk};
 ghost use Rattle.std.specs.List.{AllByRecursion};
 ghost use Rattle.std.specs.Str.{str_to_ascii_lowercase};
 ghost use Rattle.hr_lex.specs.Tokens.{IsTokenOf, IsNameText};
 ghost use Rattle.hr_parse.specs.Lexemes as spec;
+ghost use Rattle.hr_parse.specs.Parse.{moved};
 
-use crate::word::{Lexeme, Mark, Word};
-use hr_lex::{Keyword, Token, TokenKind};
+use crate::word::{Lexeme, Mark, Sign, Word};
+use hr_lex::{Token, TokenKind};
 use hr_rel::{Name, Op, Seq};
 use std::alloc::{AllocError, Global};
-
-fn mark_of(keyword: Keyword) -> Mark
-    ensures { result ≡ spec.mark_of keyword }
-{
-    match keyword {
-        Keyword::Select => Mark::Select,
-        Keyword::From => Mark::From,
-        Keyword::Inner => Mark::Inner,
-        Keyword::Join => Mark::Join,
-        Keyword::On => Mark::On,
-        Keyword::Where => Mark::Where,
-        Keyword::Group => Mark::Group,
-        Keyword::By => Mark::By,
-        Keyword::Insert => Mark::Insert,
-        Keyword::Into => Mark::Into,
-        Keyword::Values => Mark::Values,
-        Keyword::Update => Mark::Update,
-        Keyword::Set => Mark::Set,
-        Keyword::Delete => Mark::Delete,
-        Keyword::And => Mark::And,
-        Keyword::Or => Mark::Or,
-        Keyword::Not => Mark::Not,
-        Keyword::Is => Mark::Is,
-        Keyword::Null => Mark::Null,
-        Keyword::Between => Mark::Between,
-        Keyword::In => Mark::In,
-        Keyword::As => Mark::As,
-        Keyword::Count => Mark::Count,
-        Keyword::Sum => Mark::Sum,
-        Keyword::Min => Mark::Min,
-        Keyword::Max => Mark::Max,
-        Keyword::Begin => Mark::Begin,
-        Keyword::Commit => Mark::Commit,
-        Keyword::Rollback => Mark::Rollback,
-        Keyword::Order => Mark::Order,
-        Keyword::Limit => Mark::Limit,
-        Keyword::Asc => Mark::Asc,
-        Keyword::Desc => Mark::Desc,
-    }
-}
 
 /// The bytes in small letters.
 fn small(alloc: Global, bytes: &[u8]) -> Result<Vec<u8>, AllocError>
@@ -104,18 +65,18 @@ fn word(alloc: Global, kind: TokenKind, bytes: &[u8]) -> Result<Word, AllocError
     ensures { IfOk result (λ w. w ≡ spec.word_of bytes.now kind) }
 {
     Ok(match kind {
-        TokenKind::Keyword(keyword) => Word::Fixed(mark_of(keyword)),
+        TokenKind::Keyword(keyword) => Word::Fixed(Mark::Keyword(keyword)),
         TokenKind::Name => Word::Name(name(alloc, bytes)?),
         TokenKind::Number(number) => Word::Number(number),
         TokenKind::Text => Word::Text(Seq::from_vec(undoubled(alloc, between_quotes(bytes))?)),
-        TokenKind::LeftParen => Word::Fixed(Mark::LeftParen),
-        TokenKind::RightParen => Word::Fixed(Mark::RightParen),
-        TokenKind::Comma => Word::Fixed(Mark::Comma),
-        TokenKind::Dot => Word::Fixed(Mark::Dot),
-        TokenKind::Semicolon => Word::Fixed(Mark::Semicolon),
-        TokenKind::Star => Word::Fixed(Mark::Star),
-        TokenKind::Plus => Word::Fixed(Mark::Plus),
-        TokenKind::Minus => Word::Fixed(Mark::Minus),
+        TokenKind::LeftParen => Word::Fixed(Mark::Sign(Sign::LeftParen)),
+        TokenKind::RightParen => Word::Fixed(Mark::Sign(Sign::RightParen)),
+        TokenKind::Comma => Word::Fixed(Mark::Sign(Sign::Comma)),
+        TokenKind::Dot => Word::Fixed(Mark::Sign(Sign::Dot)),
+        TokenKind::Semicolon => Word::Fixed(Mark::Sign(Sign::Semicolon)),
+        TokenKind::Star => Word::Fixed(Mark::Sign(Sign::Star)),
+        TokenKind::Plus => Word::Fixed(Mark::Sign(Sign::Plus)),
+        TokenKind::Minus => Word::Fixed(Mark::Sign(Sign::Minus)),
         TokenKind::Equal => Word::Compare(Op::Eq),
         TokenKind::NotEqual => Word::Compare(Op::Ne),
         TokenKind::BangEqual => Word::Compare(Op::Ne),
@@ -126,10 +87,16 @@ fn word(alloc: Global, kind: TokenKind, bytes: &[u8]) -> Result<Word, AllocError
     })
 }
 
-/// What the tokens of a text say.
-pub fn lexemes(alloc: Global, text: &[u8], mut tokens: &[Token]) -> Result<Vec<Lexeme>, AllocError>
-    requires { AllByRecursion (IsTokenOf text.now) tokens.now }
-    ensures { IfOk result (λ v. v.items ≡ spec.lexemes text.now tokens.entry.now) }
+/// What the tokens of a text say, which begins at the place `from` of a whole one.
+pub fn lexemes(
+    alloc: Global,
+    text: &[u8],
+    mut tokens: &[Token],
+    from: u32,
+) -> Result<Vec<Lexeme>, AllocError>
+    requires fits { (from ≡ 0) ⊎ (from + length text.now < 2 ^ 32) }
+    requires each { AllByRecursion (IsTokenOf text.now) tokens.now }
+    ensures { IfOk result (λ v. v.items ≡ map (moved from) (spec.lexemes text.now tokens.entry.now)) }
 {
     let mut all = Vec::new(alloc);
     while let [token, rest @ ..] = tokens {
@@ -137,7 +104,7 @@ pub fn lexemes(alloc: Global, text: &[u8], mut tokens: &[Token]) -> Result<Vec<L
         let word = word(alloc, token.kind, bytes)?;
         all.push(Lexeme {
             word,
-            at: token.from,
+            at: from + token.from,
         })?;
         tokens = rest;
     }

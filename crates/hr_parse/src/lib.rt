@@ -2,24 +2,25 @@
 #![tactic(auto)]
 
 mod ast;
-mod change;
 mod cond;
+mod delete;
 mod expr;
+mod insert;
 mod lexeme;
 mod list;
 mod name;
 mod operand;
+mod parser;
+mod parsing;
 mod select;
 mod statement;
-mod texts;
+mod update;
 mod word;
-mod words;
 
 pub use ast::{
     AggWord, Ast, ColumnAst, CondAst, DeleteAst, EntryAst, ExprAst, ExprKind, InsertAst, ItemAst,
     Items, JoinAst, LitAst, LiteralAst, NameAt, OperandAst, SelectAst, SetAst, TupleAst, UpdateAst,
 };
-pub use texts::{ParseError, parse};
-
-#[cfg(test)]
-mod tests;
+pub use parsing::{
+    ParseError, one_tree, parse, parse_tuple, parsed_by_the_grammar, parsed_tuple_by_the_grammar,
+};

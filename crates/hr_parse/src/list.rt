@@ -1,74 +1,62 @@
 //! Lists of one part or more, with commas between.
 
 ghost use Rattle.std.specs.Prelude.{[], ◌≡◌};
-ghost use Rattle.hr_parse.specs.Reading as spec;
-ghost use Rattle.hr_parse.specs.Reading.{Reads};
+ghost use Rattle.hr_parse.specs.Readers as spec;
+ghost use Rattle.hr_parse.specs.Readers.{Reads};
 
 use crate::ast::{ColumnAst, LiteralAst, NameAt};
-use crate::word::Mark;
-use crate::words::{Stop, Words, deeper};
+use crate::parser::{Parser, Stop, deeper};
+use crate::word::{Mark, Sign};
 use hr_rel::Seq;
-use std::alloc::Global;
 
 /// What a list may be of.
 pub trait Part: Drop {
     ghost use Rattle.std.specs.Prelude.{ℕ};
-    ghost use Rattle.hr_parse.specs.Reading.{Reader};
+    ghost use Rattle.hr_parse.specs.Readers.{Reader};
 
     /// The reader of one part, with rules no deeper than this.
-    ghost reading: { ℕ → Reader Self };
+    ghost reader: { ℕ → Reader Self };
 
-    fn part(words: &mut Words<'_>, alloc: Global, depth: usize) -> Result<Self, Stop>
-        ensures { Reads (reading depth words.old.rest.now) result words.new.rest.now };
+    fn part(parser: &mut Parser<'_>, depth: usize) -> Result<Self, Stop>
+        ensures { Reads (reader depth parser.old.rest.now) result parser.new.rest.now };
 }
 
 impl Part for NameAt {
-    ghost reading = { λ _. spec.name };
+    ghost reader = { λ _. spec.name };
 
-    fn part(words: &mut Words<'_>, _alloc: Global, _depth: usize) -> Result<NameAt, Stop> {
-        words.name()
+    fn part(parser: &mut Parser<'_>, _depth: usize) -> Result<NameAt, Stop> {
+        parser.name()
     }
 }
 
 impl Part for ColumnAst {
-    ghost reading = { λ _. spec.column };
+    ghost reader = { λ _. spec.column };
 
-    fn part(words: &mut Words<'_>, _alloc: Global, _depth: usize) -> Result<ColumnAst, Stop> {
-        words.column()
+    fn part(parser: &mut Parser<'_>, _depth: usize) -> Result<ColumnAst, Stop> {
+        parser.column()
     }
 }
 
 impl Part for LiteralAst {
-    ghost reading = { λ _. spec.literal };
+    ghost reader = { λ _. spec.literal };
 
-    fn part(words: &mut Words<'_>, alloc: Global, _depth: usize) -> Result<LiteralAst, Stop> {
-        words.literal(alloc)
-    }
-}
-
-/// Reads the parts that are still to come, of which there are no more than `most`, behind those in `front`.
-#[tactic(auto, unfolding(crate::specs::Reading::listed_behind))]
-fn listed_behind<T: Part>(
-    words: &mut Words<'_>,
-    alloc: Global,
-    depth: usize,
-    most: usize,
-    mut front: Seq<T>,
-) -> Result<Seq<T>, Stop>
-    ensures { Reads (spec.listed_behind (T.reading depth) most front words.old.rest.now) result words.new.rest.now }
-{
-    let most = deeper(most)?;
-    front.push(T::part(words, alloc, depth)?)?;
-    if words.eat(Mark::Comma) {
-        listed_behind(words, alloc, depth, most, front)
-    } else {
-        Ok(front)
+    fn part(parser: &mut Parser<'_>, _depth: usize) -> Result<LiteralAst, Stop> {
+        parser.literal()
     }
 }
 
 /// A list of one part or more, with commas between.
-pub fn listed<T: Part>(words: &mut Words<'_>, alloc: Global, depth: usize) -> Result<Seq<T>, Stop>
-    ensures { Reads (spec.listed (T.reading depth) depth words.old.rest.now) result words.new.rest.now }
+#[tactic(auto, unfolding(crate::specs::Readers::listed_behind))]
+pub fn listed<T: Part>(parser: &mut Parser<'_>, depth: usize) -> Result<Seq<T>, Stop>
+    ensures { Reads (spec.listed (T.reader depth) depth parser.old.rest.now) result parser.new.rest.now }
 {
-    listed_behind(words, alloc, depth, depth, Seq::new(alloc))
+    let mut parts = Seq::new(parser.alloc);
+    let mut most = depth;
+    'parts: loop {
+        most = deeper(most)?;
+        parts.push(T::part(parser, depth)?)?;
+        if !parser.eat(Mark::Sign(Sign::Comma)) {
+            return Ok(parts);
+        }
+    }
 }

@@ -1,14 +1,14 @@
 //! Names and columns.
 
-ghost use Rattle.hr_parse.specs.Reading as spec;
-ghost use Rattle.hr_parse.specs.Reading.{Reads};
+ghost use Rattle.hr_parse.specs.Readers as spec;
+ghost use Rattle.hr_parse.specs.Readers.{Reads};
 
 use crate::ast::{ColumnAst, NameAt};
-use crate::word::{Mark, Word};
-use crate::words::{Stop, Words};
+use crate::parser::{Parser, Stop};
+use crate::word::{Mark, Sign, Word};
 
-impl<'a> Words<'a> {
-    #[tactic(auto, unfolding(crate::specs::Reading::name))]
+impl<'a> Parser<'a> {
+    #[tactic(auto, unfolding(crate::specs::Readers::name))]
     pub fn name(&mut self) -> Result<NameAt, Stop>
         ensures { Reads (spec.name self.old.rest.now) result self.new.rest.now }
     {
@@ -25,13 +25,13 @@ impl<'a> Words<'a> {
         }
     }
 
-    #[tactic(auto, unfolding(crate::specs::Reading::column))]
+    #[tactic(auto, unfolding(crate::specs::Readers::column))]
     /// `column = name [ "." name ]`
     pub fn column(&mut self) -> Result<ColumnAst, Stop>
         ensures { Reads (spec.column self.old.rest.now) result self.new.rest.now }
     {
         let first = self.name()?;
-        let second = if self.eat(Mark::Dot) {
+        let second = if self.eat(Mark::Sign(Sign::Dot)) {
             Some(self.name()?)
         } else {
             None

@@ -1,14 +1,15 @@
 //! Literals and operands.
 
 ghost use Rattle.std.specs.Prelude.{◌≡◌};
-ghost use Rattle.hr_parse.specs.Reading as spec;
-ghost use Rattle.hr_parse.specs.Reading.{Reads};
+ghost use Rattle.hr_parse.specs.Readers as spec;
+ghost use Rattle.hr_parse.specs.Readers.{Reads};
 
 use crate::ast::{LitAst, LiteralAst, OperandAst};
-use crate::word::{Mark, Word};
-use crate::words::{Stop, Words};
+use crate::parser::{Parser, Stop};
+use crate::word::{Mark, Sign, Word};
+use hr_lex::Keyword;
 use hr_rel::Seq;
-use std::alloc::Global;
+use sqlite_items::Boxed;
 
 /// The number behind a sign, where it is a signed number then.
 fn negated(number: u64) -> Option<i64>
@@ -27,9 +28,9 @@ fn plain(number: u64) -> Option<i64>
     i64::try_from(number).ok()
 }
 
-impl<'a> Words<'a> {
+impl<'a> Parser<'a> {
     /// The number of a literal, behind its sign at `at`.
-    #[tactic(auto, unfolding(crate::specs::Reading::negative))]
+    #[tactic(auto, unfolding(crate::specs::Readers::negative))]
     fn negative(&mut self, at: u32) -> Result<LiteralAst, Stop>
         ensures { Reads (spec.negative at self.old.rest.now) result self.new.rest.now }
     {
@@ -48,7 +49,7 @@ impl<'a> Words<'a> {
     }
 
     /// A number without a sign.
-    #[tactic(auto, unfolding(crate::specs::Reading::unsigned))]
+    #[tactic(auto, unfolding(crate::specs::Readers::unsigned))]
     fn unsigned(&mut self) -> Result<LiteralAst, Stop>
         ensures { Reads (spec.unsigned self.old.rest.now) result self.new.rest.now }
     {
@@ -67,14 +68,14 @@ impl<'a> Words<'a> {
     }
 
     /// A text, or a number without a sign.
-    #[tactic(auto, unfolding(crate::specs::Reading::constant, crate::specs::Reading::unsigned))]
-    fn constant(&mut self, alloc: Global) -> Result<LiteralAst, Stop>
+    #[tactic(auto, unfolding(crate::specs::Readers::constant, crate::specs::Readers::unsigned))]
+    fn constant(&mut self) -> Result<LiteralAst, Stop>
         ensures { Reads (spec.constant self.old.rest.now) result self.new.rest.now }
     {
         if let [first, rest @ ..] = self.rest
             && let Word::Text(text) = &first.word
         {
-            let bytes = Vec::from_slice(alloc, text.as_slice())?;
+            let bytes = Vec::from_slice(self.alloc, text.as_slice())?;
             let value = LitAst::Text(Seq::from_vec(bytes));
             let at = first.at;
             self.rest = rest;
@@ -85,32 +86,38 @@ impl<'a> Words<'a> {
     }
 
     /// `literal = [ "-" ] number | text | NULL`
-    #[tactic(auto, unfolding(crate::specs::Reading::literal))]
-    pub fn literal(&mut self, alloc: Global) -> Result<LiteralAst, Stop>
+    #[tactic(auto, unfolding(crate::specs::Readers::literal))]
+    pub fn literal(&mut self) -> Result<LiteralAst, Stop>
         ensures { Reads (spec.literal self.old.rest.now) result self.new.rest.now }
     {
-        let at = self.place();
-        if self.eat(Mark::Minus) {
+        if let Some(at) = self.eat_at(Mark::Sign(Sign::Minus)) {
             self.negative(at)
-        } else if self.eat(Mark::Null) {
+        } else if let Some(at) = self.eat_at(Mark::Keyword(Keyword::Null)) {
             Ok(LiteralAst {
                 value: LitAst::Null,
                 at,
             })
         } else {
-            self.constant(alloc)
+            self.constant()
         }
     }
 
     /// `operand = column | literal`
-    #[tactic(auto, unfolding(crate::specs::Reading::operand_at))]
-    pub fn operand(&mut self, alloc: Global) -> Result<OperandAst, Stop>
+    #[tactic(auto, unfolding(crate::specs::Readers::operand_at))]
+    pub fn operand(&mut self) -> Result<OperandAst, Stop>
         ensures { Reads (spec.operand_at self.old.rest.now) result self.new.rest.now }
     {
         if self.sees_name() {
             Ok(OperandAst::Column(self.column()?))
         } else {
-            Ok(OperandAst::Literal(self.literal(alloc)?))
+            Ok(OperandAst::Literal(self.literal()?))
         }
+    }
+
+    pub fn boxed_operand(&mut self) -> Result<Boxed<OperandAst>, Stop>
+        ensures { Reads (spec.operand_at self.old.rest.now) result self.new.rest.now }
+    {
+        let operand = self.operand()?;
+        Ok(Boxed::new(self.alloc, operand)?)
     }
 }

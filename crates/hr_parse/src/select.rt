@@ -1,37 +1,37 @@
 //! SELECT.
 
 ghost use Rattle.std.specs.Prelude.{[]};
-ghost use Rattle.hr_parse.specs.Reading as spec;
-ghost use Rattle.hr_parse.specs.Reading.{Reads};
+ghost use Rattle.hr_parse.specs.Readers as spec;
+ghost use Rattle.hr_parse.specs.Readers.{Reads};
 
 use crate::ast::{
     AggWord, ColumnAst, CondAst, EntryAst, ItemAst, Items, JoinAst, NameAt, SelectAst,
 };
 use crate::list::{Part, listed};
-use crate::word::Mark;
-use crate::words::{Stop, Words};
+use crate::parser::{Parser, Stop};
+use crate::word::{Mark, Sign};
+use hr_lex::Keyword;
 use hr_rel::Seq;
-use std::alloc::Global;
 
-impl<'a> Words<'a> {
+impl<'a> Parser<'a> {
     /// The column and `)` of an aggregate that begins at `at`.
-    #[tactic(auto, unfolding(crate::specs::Reading::aggregated))]
+    #[tactic(auto, unfolding(crate::specs::Readers::aggregated))]
     fn aggregated(&mut self, word: AggWord, at: u32) -> Result<ItemAst, Stop>
         ensures { Reads (spec.aggregated word at self.old.rest.now) result self.new.rest.now }
     {
         let column = self.column()?;
-        self.expect(Mark::RightParen)?;
+        self.expect(Mark::Sign(Sign::RightParen))?;
         Ok(ItemAst::Aggregate { word, column, at })
     }
 
     /// What stands behind COUNT.
-    #[tactic(auto, unfolding(crate::specs::Reading::counted))]
+    #[tactic(auto, unfolding(crate::specs::Readers::counted))]
     fn counted(&mut self, at: u32) -> Result<ItemAst, Stop>
         ensures { Reads (spec.counted at self.old.rest.now) result self.new.rest.now }
     {
-        self.expect(Mark::LeftParen)?;
-        if self.eat(Mark::Star) {
-            self.expect(Mark::RightParen)?;
+        self.expect(Mark::Sign(Sign::LeftParen))?;
+        if self.eat(Mark::Sign(Sign::Star)) {
+            self.expect(Mark::Sign(Sign::RightParen))?;
             Ok(ItemAst::CountAll(at))
         } else {
             self.aggregated(AggWord::Count, at)
@@ -39,52 +39,50 @@ impl<'a> Words<'a> {
     }
 
     /// What stands behind SUM, MIN or MAX.
-    #[tactic(auto, unfolding(crate::specs::Reading::folded))]
+    #[tactic(auto, unfolding(crate::specs::Readers::folded))]
     fn folded(&mut self, word: AggWord, at: u32) -> Result<ItemAst, Stop>
         ensures { Reads (spec.folded word at self.old.rest.now) result self.new.rest.now }
     {
-        self.expect(Mark::LeftParen)?;
+        self.expect(Mark::Sign(Sign::LeftParen))?;
         self.aggregated(word, at)
     }
 
     /// `item = aggregate | expr`
-    #[tactic(auto, unfolding(crate::specs::Reading::item))]
-    fn item(&mut self, alloc: Global, depth: usize) -> Result<ItemAst, Stop>
+    #[tactic(auto, unfolding(crate::specs::Readers::item))]
+    fn item(&mut self, depth: usize) -> Result<ItemAst, Stop>
         ensures { Reads (spec.item depth self.old.rest.now) result self.new.rest.now }
     {
-        let at = self.place();
-        if self.eat(Mark::Count) {
+        if let Some(at) = self.eat_at(Mark::Keyword(Keyword::Count)) {
             self.counted(at)
-        } else if self.eat(Mark::Sum) {
+        } else if let Some(at) = self.eat_at(Mark::Keyword(Keyword::Sum)) {
             self.folded(AggWord::Sum, at)
-        } else if self.eat(Mark::Min) {
+        } else if let Some(at) = self.eat_at(Mark::Keyword(Keyword::Min)) {
             self.folded(AggWord::Min, at)
-        } else if self.eat(Mark::Max) {
+        } else if let Some(at) = self.eat_at(Mark::Keyword(Keyword::Max)) {
             self.folded(AggWord::Max, at)
         } else {
-            Ok(ItemAst::Plain(self.expr(alloc, depth)?))
+            Ok(ItemAst::Plain(self.expr(depth)?))
         }
     }
 
     /// `items = "*" | item { "," item }`
-    #[tactic(auto, unfolding(crate::specs::Reading::items))]
-    fn items(&mut self, alloc: Global, depth: usize) -> Result<Items, Stop>
+    #[tactic(auto, unfolding(crate::specs::Readers::items))]
+    fn items(&mut self, depth: usize) -> Result<Items, Stop>
         ensures { Reads (spec.items depth self.old.rest.now) result self.new.rest.now }
     {
-        let at = self.place();
-        if self.eat(Mark::Star) {
+        if let Some(at) = self.eat_at(Mark::Sign(Sign::Star)) {
             Ok(Items::Star(at))
         } else {
-            Ok(Items::Listed(listed::<ItemAst>(self, alloc, depth)?))
+            Ok(Items::Listed(listed::<ItemAst>(self, depth)?))
         }
     }
 
     /// `[ [ AS ] name ]`
-    #[tactic(auto, unfolding(crate::specs::Reading::alias))]
+    #[tactic(auto, unfolding(crate::specs::Readers::alias))]
     fn alias(&mut self) -> Result<Option<NameAt>, Stop>
         ensures { Reads (spec.alias self.old.rest.now) result self.new.rest.now }
     {
-        if self.eat(Mark::As) || self.sees_name() {
+        if self.eat(Mark::Keyword(Keyword::As)) || self.sees_name() {
             Ok(Some(self.name()?))
         } else {
             Ok(None)
@@ -92,7 +90,7 @@ impl<'a> Words<'a> {
     }
 
     /// `entry = name [ [ AS ] name ]`
-    #[tactic(auto, unfolding(crate::specs::Reading::entry))]
+    #[tactic(auto, unfolding(crate::specs::Readers::entry))]
     fn entry(&mut self) -> Result<EntryAst, Stop>
         ensures { Reads (spec.entry self.old.rest.now) result self.new.rest.now }
     {
@@ -102,67 +100,67 @@ impl<'a> Words<'a> {
     }
 
     /// `entry ON cond`
-    #[tactic(auto, unfolding(crate::specs::Reading::joined))]
-    fn joined(&mut self, alloc: Global, depth: usize) -> Result<JoinAst, Stop>
+    #[tactic(auto, unfolding(crate::specs::Readers::joined))]
+    fn joined(&mut self, depth: usize) -> Result<JoinAst, Stop>
         ensures { Reads (spec.joined depth self.old.rest.now) result self.new.rest.now }
     {
         let entry = self.entry()?;
-        self.expect(Mark::On)?;
-        let on = self.cond(alloc, depth)?;
+        self.expect(Mark::Keyword(Keyword::On))?;
+        let on = self.cond(depth)?;
         Ok(JoinAst { entry, on })
     }
 
     /// `[ [ INNER ] JOIN entry ON cond ]`
-    #[tactic(auto, unfolding(crate::specs::Reading::join))]
-    fn join(&mut self, alloc: Global, depth: usize) -> Result<Option<JoinAst>, Stop>
+    #[tactic(auto, unfolding(crate::specs::Readers::join))]
+    fn join(&mut self, depth: usize) -> Result<Option<JoinAst>, Stop>
         ensures { Reads (spec.join depth self.old.rest.now) result self.new.rest.now }
     {
-        if self.eat(Mark::Inner) {
-            self.expect(Mark::Join)?;
-            Ok(Some(self.joined(alloc, depth)?))
-        } else if self.eat(Mark::Join) {
-            Ok(Some(self.joined(alloc, depth)?))
+        if self.eat(Mark::Keyword(Keyword::Inner)) {
+            self.expect(Mark::Keyword(Keyword::Join))?;
+            Ok(Some(self.joined(depth)?))
+        } else if self.eat(Mark::Keyword(Keyword::Join)) {
+            Ok(Some(self.joined(depth)?))
         } else {
             Ok(None)
         }
     }
 
     /// `[ WHERE cond ]`
-    #[tactic(auto, unfolding(crate::specs::Reading::filter))]
-    pub fn filter(&mut self, alloc: Global, depth: usize) -> Result<Option<CondAst>, Stop>
+    #[tactic(auto, unfolding(crate::specs::Readers::filter))]
+    pub fn filter(&mut self, depth: usize) -> Result<Option<CondAst>, Stop>
         ensures { Reads (spec.filter depth self.old.rest.now) result self.new.rest.now }
     {
-        if self.eat(Mark::Where) {
-            Ok(Some(self.cond(alloc, depth)?))
+        if self.eat(Mark::Keyword(Keyword::Where)) {
+            Ok(Some(self.cond(depth)?))
         } else {
             Ok(None)
         }
     }
 
     /// `[ GROUP BY column { "," column } ]`
-    #[tactic(auto, unfolding(crate::specs::Reading::groups))]
-    fn groups(&mut self, alloc: Global, depth: usize) -> Result<Seq<ColumnAst>, Stop>
+    #[tactic(auto, unfolding(crate::specs::Readers::groups))]
+    fn groups(&mut self, depth: usize) -> Result<Seq<ColumnAst>, Stop>
         ensures { Reads (spec.groups depth self.old.rest.now) result self.new.rest.now }
     {
-        if self.eat(Mark::Group) {
-            self.expect(Mark::By)?;
-            listed::<ColumnAst>(self, alloc, depth)
+        if self.eat(Mark::Keyword(Keyword::Group)) {
+            self.expect(Mark::Keyword(Keyword::By))?;
+            listed::<ColumnAst>(self, depth)
         } else {
-            Ok(Seq::new(alloc))
+            Ok(Seq::new(self.alloc))
         }
     }
 
     /// What stands behind SELECT.
-    #[tactic(auto, unfolding(crate::specs::Reading::select))]
-    pub fn select(&mut self, alloc: Global, depth: usize) -> Result<SelectAst, Stop>
+    #[tactic(auto, unfolding(crate::specs::Readers::select))]
+    pub fn select(&mut self, depth: usize) -> Result<SelectAst, Stop>
         ensures { Reads (spec.select depth self.old.rest.now) result self.new.rest.now }
     {
-        let items = self.items(alloc, depth)?;
-        self.expect(Mark::From)?;
+        let items = self.items(depth)?;
+        self.expect(Mark::Keyword(Keyword::From))?;
         let first = self.entry()?;
-        let join = self.join(alloc, depth)?;
-        let filter = self.filter(alloc, depth)?;
-        let groups = self.groups(alloc, depth)?;
+        let join = self.join(depth)?;
+        let filter = self.filter(depth)?;
+        let groups = self.groups(depth)?;
         Ok(SelectAst {
             items,
             first,
@@ -174,9 +172,9 @@ impl<'a> Words<'a> {
 }
 
 impl Part for ItemAst {
-    ghost reading = { spec.item };
+    ghost reader = { spec.item };
 
-    fn part(words: &mut Words<'_>, alloc: Global, depth: usize) -> Result<ItemAst, Stop> {
-        words.item(alloc, depth)
+    fn part(parser: &mut Parser<'_>, depth: usize) -> Result<ItemAst, Stop> {
+        parser.item(depth)
     }
 }

@@ -1,39 +1,39 @@
 //! A whole statement.
 
-ghost use Rattle.hr_parse.specs.Reading as spec;
-ghost use Rattle.hr_parse.specs.Reading.{Reads};
+ghost use Rattle.hr_parse.specs.Readers as spec;
+ghost use Rattle.hr_parse.specs.Readers.{Reads};
 
 use crate::ast::Ast;
-use crate::word::Mark;
-use crate::words::{Stop, Words};
-use std::alloc::Global;
+use crate::parser::{Parser, Stop};
+use crate::word::{Mark, Sign};
+use hr_lex::Keyword;
 
-impl<'a> Words<'a> {
+impl<'a> Parser<'a> {
     /// `select | insert | update | delete`
-    #[tactic(auto, unfolding(crate::specs::Reading::command))]
-    fn command(&mut self, alloc: Global, depth: usize) -> Result<Ast, Stop>
+    #[tactic(auto, unfolding(crate::specs::Readers::command))]
+    fn command(&mut self, depth: usize) -> Result<Ast, Stop>
         ensures { Reads (spec.command depth self.old.rest.now) result self.new.rest.now }
     {
-        if self.eat(Mark::Select) {
-            Ok(Ast::Select(self.select(alloc, depth)?))
-        } else if self.eat(Mark::Insert) {
-            Ok(Ast::Insert(self.insert(alloc, depth)?))
-        } else if self.eat(Mark::Update) {
-            Ok(Ast::Update(self.update(alloc, depth)?))
-        } else if self.eat(Mark::Delete) {
-            Ok(Ast::Delete(self.delete(alloc, depth)?))
+        if self.eat(Mark::Keyword(Keyword::Select)) {
+            Ok(Ast::Select(self.select(depth)?))
+        } else if self.eat(Mark::Keyword(Keyword::Insert)) {
+            Ok(Ast::Insert(self.insert(depth)?))
+        } else if self.eat(Mark::Keyword(Keyword::Update)) {
+            Ok(Ast::Update(self.update(depth)?))
+        } else if self.eat(Mark::Keyword(Keyword::Delete)) {
+            Ok(Ast::Delete(self.delete(depth)?))
         } else {
             Err(Stop::Unexpected)
         }
     }
 
     /// `statement = ( select | insert | update | delete ) [ ";" ]`, and then the end.
-    #[tactic(auto, unfolding(crate::specs::Reading::statement))]
-    pub fn statement(&mut self, alloc: Global, depth: usize) -> Result<Ast, Stop>
+    #[tactic(auto, unfolding(crate::specs::Readers::statement, crate::specs::Readers::terminated))]
+    pub fn statement(&mut self, depth: usize) -> Result<Ast, Stop>
         ensures { Reads (spec.statement depth self.old.rest.now) result self.new.rest.now }
     {
-        let ast = self.command(alloc, depth)?;
-        let _ended = self.eat(Mark::Semicolon);
+        let ast = self.command(depth)?;
+        let _ended = self.eat(Mark::Sign(Sign::Semicolon));
         self.expect_end()?;
         Ok(ast)
     }

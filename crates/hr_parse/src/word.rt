@@ -3,44 +3,12 @@
 ghost use Rattle.std.specs.Prelude.{◌≡◌, true};
 ghost use Rattle.hr_parse.specs.Words as spec;
 
+use hr_lex::Keyword;
 use hr_rel::{Name, Op, Seq};
 
-/// A word that is always written alike, but for the case of its letters.
+/// A sign that is no comparison.
 #[derive(Clone, Copy, Debug, PartialEq, Eq)]
-pub enum Mark {
-    Select,
-    From,
-    Inner,
-    Join,
-    On,
-    Where,
-    Group,
-    By,
-    Insert,
-    Into,
-    Values,
-    Update,
-    Set,
-    Delete,
-    And,
-    Or,
-    Not,
-    Is,
-    Null,
-    Between,
-    In,
-    As,
-    Count,
-    Sum,
-    Min,
-    Max,
-    Begin,
-    Commit,
-    Rollback,
-    Order,
-    Limit,
-    Asc,
-    Desc,
+pub enum Sign {
     LeftParen,
     RightParen,
     Comma,
@@ -49,6 +17,13 @@ pub enum Mark {
     Star,
     Plus,
     Minus,
+}
+
+/// A word that is always written alike, but for the case of its letters.
+#[derive(Clone, Copy, Debug)]
+pub enum Mark {
+    Keyword(Keyword),
+    Sign(Sign),
 }
 
 /// What a token says.
@@ -71,10 +46,15 @@ pub struct Lexeme {
 }
 
 /// Whether two marks are the same.
-pub fn same_mark(a: Mark, b: Mark) -> bool
+#[tactic(auto, unfolding(crate::specs::Words::same_mark))]
+fn same_mark(a: Mark, b: Mark) -> bool
     ensures value { result ≡ spec.same_mark a b }
 {
-    a == b
+    match (a, b) {
+        (Mark::Keyword(a), Mark::Keyword(b)) => a == b,
+        (Mark::Sign(a), Mark::Sign(b)) => a == b,
+        (Mark::Keyword(_), Mark::Sign(_)) | (Mark::Sign(_), Mark::Keyword(_)) => false,
+    }
 }
 
 /// Whether the word is this mark.

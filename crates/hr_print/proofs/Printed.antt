@@ -4,6 +4,7 @@ use Rattle.std.proofs.lemmas.List.{map-append}
 use Rattle.std.specs.List.{AllByRecursion}
 use Rattle.hr_lex.specs.Tokens.{reading}
 use Rattle.hr_parse.specs.declared.word.Mark.TheVariants as m
+use Rattle.hr_parse.specs.declared.word.Sign.TheVariants as sg
 use Rattle.hr_parse.specs.declared.word.Word.{Word}
 use Rattle.hr_parse.specs.declared.word.Lexeme.{Lexeme}
 use Rattle.hr_parse.specs.Words.{is_mark}
@@ -37,7 +38,7 @@ opened_first false n k i e = e
 
 pub opened_both : (u v : List Word) → opened (u ++ v) ≡ opened u + opened v
 opened_both [] v = omega arith
-opened_both (x ∷ u) v = opened_first (is_mark m.LeftParen x) (opened (u ++ v)) (opened u) (opened v) (opened_both u v)
+opened_both (x ∷ u) v = opened_first (is_mark (m.Sign sg.LeftParen) x) (opened (u ++ v)) (opened u) (opened v) (opened_both u v)
 
 -- ---- what is printed
 

@@ -7,6 +7,8 @@ use Rattle.hr_parse.specs.declared.ast.CondAst.TheVariants as cond_of
 use Rattle.hr_parse.specs.declared.ast.LiteralAst.{LiteralAst}
 use Rattle.hr_parse.specs.declared.ast.OperandAst.{OperandAst}
 use Rattle.hr_parse.specs.declared.word.Mark.TheVariants as m
+use Rattle.hr_lex.specs.declared.token.Keyword.TheVariants as kw
+use Rattle.hr_parse.specs.declared.word.Sign.TheVariants as sg
 use Rattle.hr_parse.specs.declared.word.Word.TheVariants as w
 use Rattle.hr_parse.specs.declared.word.Lexeme.{Lexeme}
 use Rattle.hr_parse.specs.Words.{mark, same_mark}
@@ -48,28 +50,28 @@ compared_again : (left : OperandAst) (o : Op) (a : OperandAst) (us : List Lexeme
     → (f : OperandAst → CondAst) × Behind us f × SameTest left (cond_of.Compare o left a) f
 compared_again left o a us p (Both.both (The.the q) k) h = (λ l. cond_of.Compare o l p.1, λ l. IsCheck.compared o q k, λ l e. compare_bare o l p.1 ∙ ap_two (cond_of.Compare o) e h.1 ∙ sym (compare_bare o left a))
 
-is_null_again : (left : OperandAst) (us : List Lexeme) (p : ℕ × ℕ) → Both (The (w.Fixed m.Is)) (The (w.Fixed m.Null)) us p → (Unit {0} × Unit {0})
+is_null_again : (left : OperandAst) (us : List Lexeme) (p : ℕ × ℕ) → Both (The (w.Fixed (m.Keyword kw.Is))) (The (w.Fixed (m.Keyword kw.Null))) us p → (Unit {0} × Unit {0})
     → (f : OperandAst → CondAst) × Behind us f × SameTest left (cond_of.IsNull left false) f
 is_null_again left us p (Both.both (The.the q) (The.the r)) h = (λ l. cond_of.IsNull l false, λ l. IsCheck.is_null q r, λ l e. is_null_bare l false ∙ ap (λ x. cond_of.IsNull x false) e ∙ sym (is_null_bare left false))
 
-is_not_null_again : (left : OperandAst) (us : List Lexeme) (p : ℕ × (ℕ × ℕ)) → Both (The (w.Fixed m.Is)) (Both (The (w.Fixed m.Not)) (The (w.Fixed m.Null))) us p → (Unit {0} × (Unit {0} × Unit {0}))
+is_not_null_again : (left : OperandAst) (us : List Lexeme) (p : ℕ × (ℕ × ℕ)) → Both (The (w.Fixed (m.Keyword kw.Is))) (Both (The (w.Fixed (m.Keyword kw.Not))) (The (w.Fixed (m.Keyword kw.Null)))) us p → (Unit {0} × (Unit {0} × Unit {0}))
     → (f : OperandAst → CondAst) × Behind us f × SameTest left (cond_of.IsNull left true) f
 is_not_null_again left us p (Both.both (The.the q) (Both.both (The.the r) (The.the s))) h = (λ l. cond_of.IsNull l true, λ l. IsCheck.is_not_null q r s, λ l e. is_null_bare l true ∙ ap (λ x. cond_of.IsNull x true) e ∙ sym (is_null_bare left true))
 
 -- low AND high
 abbrev Range : List Lexeme → OperandAst × (ℕ × OperandAst) → Type 0
-Range = Both IsOperand (Both (The (w.Fixed m.And)) IsOperand)
+Range = Both IsOperand (Both (The (w.Fixed (m.Keyword kw.And))) IsOperand)
 
 abbrev SameRange : OperandAst → OperandAst → OperandAst × (ℕ × OperandAst) → Type 0
 SameRange low high p = Like bare_operand low p.0 × (Unit {0} × Like bare_operand high p.1.1)
 
-printed_range : (q : ℕ) (u v : List Lexeme) (low high : OperandAst) → IsOperand u low → IsOperand v high → Valid (u ++ (mark m.And q ∷ v))
-    → Printed Ends (operand_text low ++ (codes " AND " ++ operand_text high)) Range (SameRange low high) (count (u ++ (mark m.And q ∷ v)))
+printed_range : (q : ℕ) (u v : List Lexeme) (low high : OperandAst) → IsOperand u low → IsOperand v high → Valid (u ++ (mark (m.Keyword kw.And) q ∷ v))
+    → Printed Ends (operand_text low ++ (codes " AND " ++ operand_text high)) Range (SameRange low high) (count (u ++ (mark (m.Keyword kw.And) q ∷ v)))
 unfolding same_mark
 printed_range q u v low high l k h =
-    let all : count (u ++ (mark m.And q ∷ v)) ≡ count u + count v = count_both u (mark m.And q ∷ v) in
-    change (pair (printed_operand u low l (valid_left u (mark m.And q ∷ v) h))
-    (pair (fixed (w.Fixed m.And) (between_blanks (codes "AND") (w.Fixed m.And) said_and)) (printed_operand v high k (valid_right u (mark m.And q ∷ v) h).1) (λ r e. tt)) (λ r e. refl))
+    let all : count (u ++ (mark (m.Keyword kw.And) q ∷ v)) ≡ count u + count v = count_both u (mark (m.Keyword kw.And) q ∷ v) in
+    change (pair (printed_operand u low l (valid_left u (mark (m.Keyword kw.And) q ∷ v) h))
+    (pair (fixed (w.Fixed (m.Keyword kw.And)) (between_blanks (codes "AND") (w.Fixed (m.Keyword kw.And)) said_and)) (printed_operand v high k (valid_right u (mark (m.Keyword kw.And) q ∷ v) h).1) (λ r e. tt)) (λ r e. refl))
     (λ us p r e. (p, r, e)) (omega (arith, all))
 
 same_between : (n : Bool) (left low high l a b : OperandAst) → Like bare_operand left l → Like bare_operand low a → Like bare_operand high b → Like bare_cond (cond_of.Between left low high n) (cond_of.Between l a b n)
@@ -77,33 +79,33 @@ same_between n left low high l a b e h k =
     between_bare l a b n ∙ ap (λ x. cond_of.Between x (bare_operand a) (bare_operand b) n) e
     ∙ ap_two (λ x y. cond_of.Between (bare_operand left) x y n) h k ∙ sym (between_bare left low high n)
 
-between_again : (left low high : OperandAst) (us : List Lexeme) (p : ℕ × (OperandAst × (ℕ × OperandAst))) → Both (The (w.Fixed m.Between)) Range us p → (Unit {0} × SameRange low high p.1)
+between_again : (left low high : OperandAst) (us : List Lexeme) (p : ℕ × (OperandAst × (ℕ × OperandAst))) → Both (The (w.Fixed (m.Keyword kw.Between))) Range us p → (Unit {0} × SameRange low high p.1)
     → (f : OperandAst → CondAst) × Behind us f × SameTest left (cond_of.Between left low high false) f
 between_again left low high us p (Both.both (The.the q) (Both.both l (Both.both (The.the r) k))) h =
     (λ x. cond_of.Between x p.1.0 p.1.1.1 false, λ x. IsCheck.between q r l k, λ x e. same_between false left low high x p.1.0 p.1.1.1 e h.1.0 h.1.1.1)
 
-not_between_again : (left low high : OperandAst) (us : List Lexeme) (p : ℕ × (ℕ × (OperandAst × (ℕ × OperandAst)))) → Both (The (w.Fixed m.Not)) (Both (The (w.Fixed m.Between)) Range) us p
+not_between_again : (left low high : OperandAst) (us : List Lexeme) (p : ℕ × (ℕ × (OperandAst × (ℕ × OperandAst)))) → Both (The (w.Fixed (m.Keyword kw.Not))) (Both (The (w.Fixed (m.Keyword kw.Between))) Range) us p
     → (Unit {0} × (Unit {0} × SameRange low high p.1.1)) → (f : OperandAst → CondAst) × Behind us f × SameTest left (cond_of.Between left low high true) f
 not_between_again left low high us p (Both.both (The.the o) (Both.both (The.the q) (Both.both l (Both.both (The.the r) k)))) h =
     (λ x. cond_of.Between x p.1.1.0 p.1.1.1.1 true, λ x. IsCheck.not_between o q r l k, λ x e. same_between true left low high x p.1.1.0 p.1.1.1.1 e h.1.1.0 h.1.1.1.1)
 
 -- ( list )
 abbrev pub Enclosed : {A : Type 0} → (List Lexeme → A → Type 0) → List Lexeme → ℕ × (A × ℕ) → Type 0
-Enclosed L = Both (The (w.Fixed m.LeftParen)) (Both L (The (w.Fixed m.RightParen)))
+Enclosed L = Both (The (w.Fixed (m.Sign sg.LeftParen))) (Both L (The (w.Fixed (m.Sign sg.RightParen))))
 
 pub printed_enclosed : {A : Type 0} {t : List ℕ} {L : List Lexeme → A → Type 0} {E : A → Type 0} {n : ℕ} → Printed Ends t L E n
     → Printed Ends (codes "(" ++ (t ++ codes ")")) (Enclosed L) (λ p. Unit {0} × (E p.1.0 × Unit {0})) (suc n)
 unfolding same_mark
 printed_enclosed {t} h =
-    change (pair (fixed (w.Fixed m.LeftParen) said_left) (pair h (fixed {F = Ends} (w.Fixed m.RightParen) (says_before (codes ")") _ said_right)) (λ r e. refl)) (λ r e. tt))
+    change (pair (fixed (w.Fixed (m.Sign sg.LeftParen)) said_left) (pair h (fixed {F = Ends} (w.Fixed (m.Sign sg.RightParen)) (says_before (codes ")") _ said_right)) (λ r e. refl)) (λ r e. tt))
     (λ us p r e. (p, r, e)) (omega arith)
 
-among_again : (left : OperandAst) (list : List LiteralAst) (us : List Lexeme) (p : ℕ × (ℕ × (List LiteralAst × ℕ))) → Both (The (w.Fixed m.In)) (Enclosed (Listed IsLiteral)) us p
+among_again : (left : OperandAst) (list : List LiteralAst) (us : List Lexeme) (p : ℕ × (ℕ × (List LiteralAst × ℕ))) → Both (The (w.Fixed (m.Keyword kw.In))) (Enclosed (Listed IsLiteral)) us p
     → (Unit {0} × (Unit {0} × (Like (map bare_literal) list p.1.1.0 × Unit {0}))) → (f : OperandAst → CondAst) × Behind us f × SameTest left (cond_of.Among left list false) f
 among_again left list us p (Both.both (The.the q) (Both.both (The.the r) (Both.both l (The.the s)))) h =
     (λ x. cond_of.Among x p.1.1.0 false, λ x. IsCheck.among q r s l, λ x e. among_bare x p.1.1.0 false ∙ ap_two (λ y z. cond_of.Among y z false) e h.1.1.0 ∙ sym (among_bare left list false))
 
-not_among_again : (left : OperandAst) (list : List LiteralAst) (us : List Lexeme) (p : ℕ × (ℕ × (ℕ × (List LiteralAst × ℕ)))) → Both (The (w.Fixed m.Not)) (Both (The (w.Fixed m.In)) (Enclosed (Listed IsLiteral))) us p
+not_among_again : (left : OperandAst) (list : List LiteralAst) (us : List Lexeme) (p : ℕ × (ℕ × (ℕ × (List LiteralAst × ℕ)))) → Both (The (w.Fixed (m.Keyword kw.Not))) (Both (The (w.Fixed (m.Keyword kw.In))) (Enclosed (Listed IsLiteral))) us p
     → (Unit {0} × (Unit {0} × (Unit {0} × (Like (map bare_literal) list p.1.1.1.0 × Unit {0})))) → (f : OperandAst → CondAst) × Behind us f × SameTest left (cond_of.Among left list true) f
 not_among_again left list us p (Both.both (The.the o) (Both.both (The.the q) (Both.both (The.the r) (Both.both l (The.the s))))) h =
     (λ x. cond_of.Among x p.1.1.1.0 true, λ x. IsCheck.not_among o q r s l, λ x e. among_bare x p.1.1.1.0 true ∙ ap_two (λ y z. cond_of.Among y z true) e h.1.1.1.0 ∙ sym (among_bare left list true))
@@ -120,46 +122,46 @@ printed_check left s c (IsCheck.is_null p q) v = record {
   text = is_text false;
   same = is_null_shown left false;
   apart = λ rest h. refl;
-  printed = change (pair (fixed (w.Fixed m.Is) (between_blanks (codes "IS") (w.Fixed m.Is) said_is)) (fixed (w.Fixed m.Null) said_null) (λ r e. tt)) (is_null_again left) (omega arith);
+  printed = change (pair (fixed (w.Fixed (m.Keyword kw.Is)) (between_blanks (codes "IS") (w.Fixed (m.Keyword kw.Is)) said_is)) (fixed (w.Fixed (m.Keyword kw.Null)) said_null) (λ r e. tt)) (is_null_again left) (omega arith);
 }
 printed_check left s c (IsCheck.is_not_null p q r) v = record {
   text = is_text true;
   same = is_null_shown left true;
   apart = λ rest h. refl;
-  printed = change (pair (fixed (w.Fixed m.Is) (between_blanks (codes "IS") (w.Fixed m.Is) said_is))
-      (pair (fixed (w.Fixed m.Not) (before_blank (codes "NOT") (w.Fixed m.Not) said_not)) (fixed (w.Fixed m.Null) said_null) (λ r e. tt)) (λ r e. tt)) (is_not_null_again left) (omega arith);
+  printed = change (pair (fixed (w.Fixed (m.Keyword kw.Is)) (between_blanks (codes "IS") (w.Fixed (m.Keyword kw.Is)) said_is))
+      (pair (fixed (w.Fixed (m.Keyword kw.Not)) (before_blank (codes "NOT") (w.Fixed (m.Keyword kw.Not)) said_not)) (fixed (w.Fixed (m.Keyword kw.Null)) said_null) (λ r e. tt)) (λ r e. tt)) (is_not_null_again left) (omega arith);
 }
 printed_check left s c (IsCheck.between p q {u} {v} {a} {b} l k) h = record {
   text = between_text false ++ (operand_text a ++ (codes " AND " ++ operand_text b));
   same = between_shown left a b false;
   apart = λ rest h. refl;
-  printed = change (pair (fixed (w.Fixed m.Between) (between_blanks (codes "BETWEEN") (w.Fixed m.Between) said_between)) (printed_range q u v a b l k h.1) (λ r e. tt)) (between_again left a b) (omega arith);
+  printed = change (pair (fixed (w.Fixed (m.Keyword kw.Between)) (between_blanks (codes "BETWEEN") (w.Fixed (m.Keyword kw.Between)) said_between)) (printed_range q u v a b l k h.1) (λ r e. tt)) (between_again left a b) (omega arith);
 }
 printed_check left s c (IsCheck.not_between o p q {u} {v} {a} {b} l k) h = record {
   text = between_text true ++ (operand_text a ++ (codes " AND " ++ operand_text b));
   same = between_shown left a b true;
   apart = λ rest h. refl;
-  printed = change (pair (fixed (w.Fixed m.Not) (between_blanks (codes "NOT") (w.Fixed m.Not) said_not))
-      (pair (fixed (w.Fixed m.Between) (before_blank (codes "BETWEEN") (w.Fixed m.Between) said_between)) (printed_range q u v a b l k h.1.1) (λ r e. tt)) (λ r e. tt)) (not_between_again left a b) (omega arith);
+  printed = change (pair (fixed (w.Fixed (m.Keyword kw.Not)) (between_blanks (codes "NOT") (w.Fixed (m.Keyword kw.Not)) said_not))
+      (pair (fixed (w.Fixed (m.Keyword kw.Between)) (before_blank (codes "BETWEEN") (w.Fixed (m.Keyword kw.Between)) said_between)) (printed_range q u v a b l k h.1.1) (λ r e. tt)) (λ r e. tt)) (not_between_again left a b) (omega arith);
 }
 printed_check left s c (IsCheck.among p q r {u} {all} l) h =
-    let n : count (u ++ (mark m.RightParen r ∷ [])) ≡ count u + 0 = count_both u (mark m.RightParen r ∷ []) in
+    let n : count (u ++ (mark (m.Sign sg.RightParen) r ∷ [])) ≡ count u + 0 = count_both u (mark (m.Sign sg.RightParen) r ∷ []) in
     record {
       text = in_text false ++ (joined (map literal_text all) ++ codes ")");
       same = among_shown left all false;
       apart = λ rest h. refl;
-      printed = change (pair (fixed (w.Fixed m.In) (between_blanks (codes "IN") (w.Fixed m.In) said_in))
-          (printed_enclosed (printed_list IsLiteral bare_literal literal_text printed_literal u all l (valid_left u (mark m.RightParen r ∷ []) h.1.1))) (λ r e. tt)) (among_again left all) (omega (arith, n));
+      printed = change (pair (fixed (w.Fixed (m.Keyword kw.In)) (between_blanks (codes "IN") (w.Fixed (m.Keyword kw.In)) said_in))
+          (printed_enclosed (printed_list IsLiteral bare_literal literal_text printed_literal u all l (valid_left u (mark (m.Sign sg.RightParen) r ∷ []) h.1.1))) (λ r e. tt)) (among_again left all) (omega (arith, n));
     }
 printed_check left s c (IsCheck.not_among o p q r {u} {all} l) h =
-    let n : count (u ++ (mark m.RightParen r ∷ [])) ≡ count u + 0 = count_both u (mark m.RightParen r ∷ []) in
+    let n : count (u ++ (mark (m.Sign sg.RightParen) r ∷ [])) ≡ count u + 0 = count_both u (mark (m.Sign sg.RightParen) r ∷ []) in
     record {
       text = in_text true ++ (joined (map literal_text all) ++ codes ")");
       same = among_shown left all true;
       apart = λ rest h. refl;
-      printed = change (pair (fixed (w.Fixed m.Not) (between_blanks (codes "NOT") (w.Fixed m.Not) said_not))
-          (pair (fixed (w.Fixed m.In) (before_blank (codes "IN") (w.Fixed m.In) said_in))
-          (printed_enclosed (printed_list IsLiteral bare_literal literal_text printed_literal u all l (valid_left u (mark m.RightParen r ∷ []) h.1.1.1))) (λ r e. tt)) (λ r e. tt)) (not_among_again left all) (omega (arith, n));
+      printed = change (pair (fixed (w.Fixed (m.Keyword kw.Not)) (between_blanks (codes "NOT") (w.Fixed (m.Keyword kw.Not)) said_not))
+          (pair (fixed (w.Fixed (m.Keyword kw.In)) (before_blank (codes "IN") (w.Fixed (m.Keyword kw.In)) said_in))
+          (printed_enclosed (printed_list IsLiteral bare_literal literal_text printed_literal u all l (valid_left u (mark (m.Sign sg.RightParen) r ∷ []) h.1.1.1))) (λ r e. tt)) (λ r e. tt)) (not_among_again left all) (omega (arith, n));
     }
 
 test_again : (left : OperandAst) (a : CondAst) (us : List Lexeme) (p : OperandAst × (OperandAst → CondAst)) → Both IsOperand Behind us p → (Like bare_operand left p.0 × SameTest left a p.1)

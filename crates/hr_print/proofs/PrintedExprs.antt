@@ -7,6 +7,7 @@ use Rattle.hr_parse.specs.declared.ast.OperandAst.{OperandAst}
 use Rattle.hr_parse.specs.declared.ast.OperandAst.TheVariants as operand_of
 use Rattle.hr_parse.specs.declared.word.Mark.{Mark}
 use Rattle.hr_parse.specs.declared.word.Mark.TheVariants as m
+use Rattle.hr_parse.specs.declared.word.Sign.TheVariants as sg
 use Rattle.hr_parse.specs.declared.word.Word.TheVariants as w
 use Rattle.hr_parse.specs.declared.word.Lexeme.{Lexeme}
 use Rattle.hr_parse.specs.Words.{mark, same_mark}
@@ -31,14 +32,14 @@ expr_of u a l = subst (λ z. IsExpr z a) (append-nil u) (IsExpr.expr l PlusMore.
 
 -- ---- one part more
 
-times_snoc : (p : ℕ) (a : ExprAst) (u : List Lexeme) (b : ExprAst) → TimesMore a u b → (v : List Lexeme) (c : ExprAst) → IsFactor v c → TimesMore a (u ++ (mark m.Star p ∷ v)) (product b c)
-times_snoc p a u b TimesMore.times_done v c l = subst (λ z. TimesMore a (mark m.Star p ∷ z) (product b c)) (append-nil v) (TimesMore.times_more p l TimesMore.times_done)
+times_snoc : (p : ℕ) (a : ExprAst) (u : List Lexeme) (b : ExprAst) → TimesMore a u b → (v : List Lexeme) (c : ExprAst) → IsFactor v c → TimesMore a (u ++ (mark (m.Sign sg.Star) p ∷ v)) (product b c)
+times_snoc p a u b TimesMore.times_done v c l = subst (λ z. TimesMore a (mark (m.Sign sg.Star) p ∷ z) (product b c)) (append-nil v) (TimesMore.times_more p l TimesMore.times_done)
 times_snoc p e s b (TimesMore.times_more q {u} {v = x} {a} {b = d} k more) v c l =
-    subst (λ z. TimesMore a (mark m.Star q ∷ z) (product b c)) (sym (append_assoc u x (mark m.Star p ∷ v))) (TimesMore.times_more q k (times_snoc p (product a d) x b more v c l))
+    subst (λ z. TimesMore a (mark (m.Sign sg.Star) q ∷ z) (product b c)) (sym (append_assoc u x (mark (m.Sign sg.Star) p ∷ v))) (TimesMore.times_more q k (times_snoc p (product a d) x b more v c l))
 
-term_snoc : (p : ℕ) (u : List Lexeme) (b : ExprAst) → IsTerm u b → (v : List Lexeme) (c : ExprAst) → IsFactor v c → IsTerm (u ++ (mark m.Star p ∷ v)) (product b c)
+term_snoc : (p : ℕ) (u : List Lexeme) (b : ExprAst) → IsTerm u b → (v : List Lexeme) (c : ExprAst) → IsFactor v c → IsTerm (u ++ (mark (m.Sign sg.Star) p ∷ v)) (product b c)
 term_snoc p s b (IsTerm.term {u} {v = x} {a} k more) v c l =
-    subst (λ z. IsTerm z (product b c)) (sym (append_assoc u x (mark m.Star p ∷ v))) (IsTerm.term k (times_snoc p a x b more v c l))
+    subst (λ z. IsTerm z (product b c)) (sym (append_assoc u x (mark (m.Sign sg.Star) p ∷ v))) (IsTerm.term k (times_snoc p a x b more v c l))
 
 -- behind what follows a term, one more step to that tree
 abbrev Step : Mark → ExprAst → List Lexeme → ExprAst → Type 0
@@ -47,19 +48,19 @@ Step k b v c = (p : ℕ) → PlusMore b (mark k p ∷ v) c
 plus_snoc : (k : Mark) (p : ℕ) (a : ExprAst) (u : List Lexeme) (b : ExprAst) → PlusMore a u b → (v : List Lexeme) (c : ExprAst) → Step k b v c → PlusMore a (u ++ (mark k p ∷ v)) c
 plus_snoc k p a u b PlusMore.plus_done v c l = l p
 plus_snoc k p e s b (PlusMore.plus_more q {u} {v = x} {a} {b = d} r more) v c l =
-    subst (λ z. PlusMore a (mark m.Plus q ∷ z) c) (sym (append_assoc u x (mark k p ∷ v))) (PlusMore.plus_more q r (plus_snoc k p (sum a d) x b more v c l))
+    subst (λ z. PlusMore a (mark (m.Sign sg.Plus) q ∷ z) c) (sym (append_assoc u x (mark k p ∷ v))) (PlusMore.plus_more q r (plus_snoc k p (sum a d) x b more v c l))
 plus_snoc k p e s b (PlusMore.minus_more q {u} {v = x} {a} {b = d} r more) v c l =
-    subst (λ z. PlusMore a (mark m.Minus q ∷ z) c) (sym (append_assoc u x (mark k p ∷ v))) (PlusMore.minus_more q r (plus_snoc k p (difference a d) x b more v c l))
+    subst (λ z. PlusMore a (mark (m.Sign sg.Minus) q ∷ z) c) (sym (append_assoc u x (mark k p ∷ v))) (PlusMore.minus_more q r (plus_snoc k p (difference a d) x b more v c l))
 
 expr_snoc : (k : Mark) (p : ℕ) (u : List Lexeme) (b : ExprAst) → IsExpr u b → (v : List Lexeme) (c : ExprAst) → Step k b v c → IsExpr (u ++ (mark k p ∷ v)) c
 expr_snoc k p s b (IsExpr.expr {u} {v = x} {a} r more) v c l =
     subst (λ z. IsExpr z c) (sym (append_assoc u x (mark k p ∷ v))) (IsExpr.expr r (plus_snoc k p a x b more v c l))
 
-sum_step : (b : ExprAst) (v : List Lexeme) (c : ExprAst) → IsTerm v c → Step m.Plus b v (sum b c)
-sum_step b v c l = λ p. subst (λ z. PlusMore b (mark m.Plus p ∷ z) (sum b c)) (append-nil v) (PlusMore.plus_more p l PlusMore.plus_done)
+sum_step : (b : ExprAst) (v : List Lexeme) (c : ExprAst) → IsTerm v c → Step (m.Sign sg.Plus) b v (sum b c)
+sum_step b v c l = λ p. subst (λ z. PlusMore b (mark (m.Sign sg.Plus) p ∷ z) (sum b c)) (append-nil v) (PlusMore.plus_more p l PlusMore.plus_done)
 
-difference_step : (b : ExprAst) (v : List Lexeme) (c : ExprAst) → IsTerm v c → Step m.Minus b v (difference b c)
-difference_step b v c l = λ p. subst (λ z. PlusMore b (mark m.Minus p ∷ z) (difference b c)) (append-nil v) (PlusMore.minus_more p l PlusMore.plus_done)
+difference_step : (b : ExprAst) (v : List Lexeme) (c : ExprAst) → IsTerm v c → Step (m.Sign sg.Minus) b v (difference b c)
+difference_step b v c l = λ p. subst (λ z. PlusMore b (mark (m.Sign sg.Minus) p ∷ z) (difference b c)) (append-nil v) (PlusMore.minus_more p l PlusMore.plus_done)
 
 -- ---- an expression at each of its places
 
@@ -125,7 +126,7 @@ in_parens a t n p = change (printed_enclosed p) (parens_again a) (omega arith)
 
 -- ---- products, sums and differences
 
-product_again : (a b : ExprAst) (us : List Lexeme) (p : ExprAst × (ℕ × ExprAst)) → Both IsTerm (Both (The (w.Fixed m.Star)) IsFactor) us p → (Like bare_expr a p.0 × (Unit {0} × Like bare_expr b p.1.1))
+product_again : (a b : ExprAst) (us : List Lexeme) (p : ExprAst × (ℕ × ExprAst)) → Both IsTerm (Both (The (w.Fixed (m.Sign sg.Star))) IsFactor) us p → (Like bare_expr a p.0 × (Unit {0} × Like bare_expr b p.1.1))
     → (c : ExprAst) × IsTerm us c × Like bare_expr (product a b) c
 product_again a b us p (Both.both {u} l (Both.both {v = v} (The.the q) k)) h = (product p.0 p.1.1, term_snoc q u p.0 l v p.1.1 k, mul_bare p.0 p.1.1 _ ∙ ap_two (λ x y. expr (kind.Mul x y) 0) h.0 h.1.1 ∙ sym (mul_bare a b _))
 
@@ -133,7 +134,7 @@ product_whole : (a b : ExprAst) (n k : ℕ) → Printed Ends (expr_text a 1) IsT
     → Printed Ends (expr_text a 1 ++ (codes " * " ++ expr_text b 2)) IsTerm (Like bare_expr (product a b)) (n + k)
 unfolding same_mark
 product_whole a b n k p q =
-    change (pair p (pair (fixed (w.Fixed m.Star) (between_blanks (codes "*") (w.Fixed m.Star) (says_before (codes "*") _ said_star))) q (λ r e. tt)) (λ r e. refl)) (product_again a b) (omega arith)
+    change (pair p (pair (fixed (w.Fixed (m.Sign sg.Star)) (between_blanks (codes "*") (w.Fixed (m.Sign sg.Star)) (says_before (codes "*") _ said_star))) q (λ r e. tt)) (λ r e. refl)) (product_again a b) (omega arith)
 
 product_exprs : (a b : ExprAst) (n k : ℕ) → Printed Ends (expr_text a 1) IsTerm (Like bare_expr a) n → Printed Ends (expr_text b 2) IsFactor (Like bare_expr b) k
     → Exprs (product a b) (n + k) (n + k) (suc (n + k))
@@ -147,15 +148,15 @@ product_exprs a b n k p q =
       tight = retext (codes "(" ++ (t ++ codes ")")) (expr_text c 2) (sym (mul_shown a b _ 2)) (in_parens c t (n + k) (as_expr c whole));
     }
 
-sum_again : (a b : ExprAst) (us : List Lexeme) (p : ExprAst × (ℕ × ExprAst)) → Both IsExpr (Both (The (w.Fixed m.Plus)) IsTerm) us p → (Like bare_expr a p.0 × (Unit {0} × Like bare_expr b p.1.1))
+sum_again : (a b : ExprAst) (us : List Lexeme) (p : ExprAst × (ℕ × ExprAst)) → Both IsExpr (Both (The (w.Fixed (m.Sign sg.Plus))) IsTerm) us p → (Like bare_expr a p.0 × (Unit {0} × Like bare_expr b p.1.1))
     → (c : ExprAst) × IsExpr us c × Like bare_expr (sum a b) c
 sum_again a b us p (Both.both {u} l (Both.both {v = v} (The.the q) k)) h =
-    (sum p.0 p.1.1, expr_snoc m.Plus q u p.0 l v (sum p.0 p.1.1) (sum_step p.0 v p.1.1 k), add_bare p.0 p.1.1 _ ∙ ap_two (λ x y. expr (kind.Add x y) 0) h.0 h.1.1 ∙ sym (add_bare a b _))
+    (sum p.0 p.1.1, expr_snoc (m.Sign sg.Plus) q u p.0 l v (sum p.0 p.1.1) (sum_step p.0 v p.1.1 k), add_bare p.0 p.1.1 _ ∙ ap_two (λ x y. expr (kind.Add x y) 0) h.0 h.1.1 ∙ sym (add_bare a b _))
 
-difference_again : (a b : ExprAst) (us : List Lexeme) (p : ExprAst × (ℕ × ExprAst)) → Both IsExpr (Both (The (w.Fixed m.Minus)) IsTerm) us p → (Like bare_expr a p.0 × (Unit {0} × Like bare_expr b p.1.1))
+difference_again : (a b : ExprAst) (us : List Lexeme) (p : ExprAst × (ℕ × ExprAst)) → Both IsExpr (Both (The (w.Fixed (m.Sign sg.Minus))) IsTerm) us p → (Like bare_expr a p.0 × (Unit {0} × Like bare_expr b p.1.1))
     → (c : ExprAst) × IsExpr us c × Like bare_expr (difference a b) c
 difference_again a b us p (Both.both {u} l (Both.both {v = v} (The.the q) k)) h =
-    (difference p.0 p.1.1, expr_snoc m.Minus q u p.0 l v (difference p.0 p.1.1) (difference_step p.0 v p.1.1 k), sub_bare p.0 p.1.1 _ ∙ ap_two (λ x y. expr (kind.Sub x y) 0) h.0 h.1.1 ∙ sym (sub_bare a b _))
+    (difference p.0 p.1.1, expr_snoc (m.Sign sg.Minus) q u p.0 l v (difference p.0 p.1.1) (difference_step p.0 v p.1.1 k), sub_bare p.0 p.1.1 _ ∙ ap_two (λ x y. expr (kind.Sub x y) 0) h.0 h.1.1 ∙ sym (sub_bare a b _))
 
 -- what is a sum or a difference, at each of its places
 loosest : (c : ExprAst) (t : List ℕ) (n : ℕ) → expr_text c 0 ≡ t ++ [] → expr_text c 1 ≡ codes "(" ++ (t ++ codes ")") → expr_text c 2 ≡ codes "(" ++ (t ++ codes ")")
@@ -172,13 +173,13 @@ sum_exprs : (a b : ExprAst) (n k : ℕ) → Printed Ends (expr_text a 0) IsExpr 
     → Exprs (sum a b) (n + k) (suc (n + k)) (suc (n + k))
 unfolding same_mark
 sum_exprs a b n k p q = loosest (sum a b) (expr_text a 0 ++ (codes " + " ++ expr_text b 1)) (n + k) (add_shown a b _ 0) (add_shown a b _ 1) (add_shown a b _ 2)
-    (change (pair p (pair (fixed (w.Fixed m.Plus) (between_blanks (codes "+") (w.Fixed m.Plus) (says_before (codes "+") _ said_plus))) q (λ r e. tt)) (λ r e. refl)) (sum_again a b) (omega arith))
+    (change (pair p (pair (fixed (w.Fixed (m.Sign sg.Plus)) (between_blanks (codes "+") (w.Fixed (m.Sign sg.Plus)) (says_before (codes "+") _ said_plus))) q (λ r e. tt)) (λ r e. refl)) (sum_again a b) (omega arith))
 
 difference_exprs : (a b : ExprAst) (n k : ℕ) → Printed Ends (expr_text a 0) IsExpr (Like bare_expr a) n → Printed Ends (expr_text b 1) IsTerm (Like bare_expr b) k
     → Exprs (difference a b) (n + k) (suc (n + k)) (suc (n + k))
 unfolding same_mark
 difference_exprs a b n k p q = loosest (difference a b) (expr_text a 0 ++ (codes " - " ++ expr_text b 1)) (n + k) (sub_shown a b _ 0) (sub_shown a b _ 1) (sub_shown a b _ 2)
-    (change (pair p (pair (fixed (w.Fixed m.Minus) (between_blanks (codes "-") (w.Fixed m.Minus) (says_before (codes "-") _ said_minus))) q (λ r e. tt)) (λ r e. refl)) (difference_again a b) (omega arith))
+    (change (pair p (pair (fixed (w.Fixed (m.Sign sg.Minus)) (between_blanks (codes "-") (w.Fixed (m.Sign sg.Minus)) (says_before (codes "-") _ said_minus))) q (λ r e. tt)) (λ r e. refl)) (difference_again a b) (omega arith))
 
 -- ---- expressions of the grammar
 
@@ -188,9 +189,9 @@ mutual
   factor_printed : (u : List Lexeme) (a : ExprAst) → IsFactor u a → Valid u → Exprs a (count u) (count u) (count u)
   factor_printed s b (IsFactor.operand {u} {a} l) h = operand_exprs u a l h
   factor_printed s b (IsFactor.parens p q {u} {a} l) h =
-      let c = placed_exprs a p (count u) (suc (count u)) (suc (count u)) (expr_printed u a l (valid_left u (mark m.RightParen q ∷ []) h.1)) in
-      let n : count (u ++ (mark m.RightParen q ∷ [])) ≡ count u + 0 = count_both u (mark m.RightParen q ∷ []) in
-      let all : ℕ = suc (count (u ++ (mark m.RightParen q ∷ []))) in
+      let c = placed_exprs a p (count u) (suc (count u)) (suc (count u)) (expr_printed u a l (valid_left u (mark (m.Sign sg.RightParen) q ∷ []) h.1)) in
+      let n : count (u ++ (mark (m.Sign sg.RightParen) q ∷ [])) ≡ count u + 0 = count_both u (mark (m.Sign sg.RightParen) q ∷ []) in
+      let all : ℕ = suc (count (u ++ (mark (m.Sign sg.RightParen) q ∷ []))) in
       weaker all all all c (omega (arith, n)) (omega (arith, n)) (omega (arith, n))
 
   term_printed : (u : List Lexeme) (a : ExprAst) → IsTerm u a → Valid u → Exprs a (count u) (count u) (suc (count u))

@@ -13,6 +13,8 @@ use Rattle.hr_parse.specs.declared.ast.OperandAst.{OperandAst}
 use Rattle.hr_parse.specs.declared.ast.OperandAst.TheVariants as operand_of
 use Rattle.hr_parse.specs.declared.word.Mark.{Mark}
 use Rattle.hr_parse.specs.declared.word.Mark.TheVariants as m
+use Rattle.hr_lex.specs.declared.token.Keyword.TheVariants as kw
+use Rattle.hr_parse.specs.declared.word.Sign.TheVariants as sg
 use Rattle.hr_parse.specs.declared.word.Word.{Word}
 use Rattle.hr_parse.specs.declared.word.Word.TheVariants as w
 use Rattle.hr_parse.specs.declared.word.Lexeme.{Lexeme}
@@ -62,16 +64,16 @@ pub some_again : {A : Type 0} (k : Mark) (L : List Lexeme → A → Type 0) (f :
     → (b : Option A) × Optional k L us b × Like (option_map f) (Some a) b
 some_again k L f a us p (Both.both (The.the q) l) h = (Some p.1, Optional.some q l, ap Some h.1)
 
-printed_dotted : (u : List Lexeme) (a : Option NameAt) → Optional m.Dot IsName u a → Valid u → Printed Ends (dotted a) (Optional m.Dot IsName) (Like (option_map bare_name) a) (count u)
+printed_dotted : (u : List Lexeme) (a : Option NameAt) → Optional (m.Sign sg.Dot) IsName u a → Valid u → Printed Ends (dotted a) (Optional (m.Sign sg.Dot) IsName) (Like (option_map bare_name) a) (count u)
 unfolding same_mark
 printed_dotted s c Optional.none v = nothing 0 None Optional.none refl
-printed_dotted s c (Optional.some p {u} {a} l) v = change (pair (fixed (w.Fixed m.Dot) said_dot) (printed_name u a l v.1) (λ rest h. tt)) (some_again m.Dot IsName bare_name a) (omega arith)
+printed_dotted s c (Optional.some p {u} {a} l) v = change (pair (fixed (w.Fixed (m.Sign sg.Dot)) said_dot) (printed_name u a l v.1) (λ rest h. tt)) (some_again (m.Sign sg.Dot) IsName bare_name a) (omega arith)
 
 dotted_apart : (a : Option NameAt) (rest : List ℕ) → Ends rest → Ends (dotted a ++ rest)
 dotted_apart None rest h = h
 dotted_apart (Some a) rest h = refl
 
-column_again : (a : NameAt) (b : Option NameAt) (us : List Lexeme) (p : NameAt × Option NameAt) → Both IsName (Optional m.Dot IsName) us p → (Like bare_name a p.0 × Like (option_map bare_name) b p.1)
+column_again : (a : NameAt) (b : Option NameAt) (us : List Lexeme) (p : NameAt × Option NameAt) → Both IsName (Optional (m.Sign sg.Dot) IsName) us p → (Like bare_name a p.0 × Like (option_map bare_name) b p.1)
     → (c : ColumnAst) × IsColumn us c × Like bare_column (record { first = a; second = b }) c
 column_again a b us p (Both.both l k) h = (record { first = p.0; second = p.1 }, IsColumn.column l k, ap_two (λ (x : NameAt) (y : Option NameAt). record { first = x; second = y }) h.0 h.1)
 
@@ -89,19 +91,19 @@ positive_again n p h us q (The.the r) e = (record { value = lit.Int (pos n); at 
 printed_positive : (n p : ℕ) → n < 2 ^ 63 → (k : ℕ) → Printed Ends (signed_decimal (pos n)) IsLiteral (Like bare_literal (record { value = lit.Int (pos n); at = p })) k
 printed_positive n p h k = change (fixed (w.Number n) (said_number n (omega (arith, h)))) (positive_again n p h) (omega arith)
 
-negative_again : (n p : ℕ) → n ≤ 2 ^ 63 → (us : List Lexeme) (q : ℕ × ℕ) → Both (The (w.Fixed m.Minus)) (The (w.Number n)) us q → Unit {0} × Unit {0}
+negative_again : (n p : ℕ) → n ≤ 2 ^ 63 → (us : List Lexeme) (q : ℕ × ℕ) → Both (The (w.Fixed (m.Sign sg.Minus))) (The (w.Number n)) us q → Unit {0} × Unit {0}
     → (b : LiteralAst) × IsLiteral us b × Like bare_literal (record { value = lit.Int (minus n); at = p }) b
 negative_again n p h us q (Both.both (The.the r) (The.the s)) e = (record { value = lit.Int (minus n); at = r }, IsLiteral.negative n r s h, refl)
 
 printed_negative : (n p : ℕ) → n ≤ 2 ^ 63 → (k : ℕ) → Printed Ends (signed_decimal (minus n)) IsLiteral (Like bare_literal (record { value = lit.Int (minus n); at = p })) k
 unfolding same_mark
 printed_negative zero p h k = printed_positive zero p (omega arith) k
-printed_negative (suc n) p h k = change (pair (fixed (w.Fixed m.Minus) said_minus) (fixed (w.Number (suc n)) (said_number (suc n) h)) (λ rest e. tt)) (negative_again (suc n) p h) (omega arith)
+printed_negative (suc n) p h k = change (pair (fixed (w.Fixed (m.Sign sg.Minus)) said_minus) (fixed (w.Number (suc n)) (said_number (suc n) h)) (λ rest e. tt)) (negative_again (suc n) p h) (omega arith)
 
 quoted_again : (t : List ℕ) (p : ℕ) (us : List Lexeme) (q : ℕ) → The (w.Text t) us q → Unit {0} → (b : LiteralAst) × IsLiteral us b × Like bare_literal (record { value = lit.Text t; at = p }) b
 quoted_again t p us q (The.the r) e = (record { value = lit.Text t; at = r }, IsLiteral.quoted t r, refl)
 
-null_again : (p : ℕ) (us : List Lexeme) (q : ℕ) → The (w.Fixed m.Null) us q → Unit {0} → (b : LiteralAst) × IsLiteral us b × Like bare_literal (record { value = lit.Null; at = p }) b
+null_again : (p : ℕ) (us : List Lexeme) (q : ℕ) → The (w.Fixed (m.Keyword kw.Null)) us q → Unit {0} → (b : LiteralAst) × IsLiteral us b × Like bare_literal (record { value = lit.Null; at = p }) b
 null_again p us q (The.the r) e = (record { value = lit.Null; at = r }, IsLiteral.null r, refl)
 
 pub printed_literal : (u : List Lexeme) (a : LiteralAst) → IsLiteral u a → Valid u → Printed Ends (literal_text a) IsLiteral (Like bare_literal a) (count u)
@@ -109,7 +111,7 @@ unfolding same_mark
 printed_literal u a (IsLiteral.positive n p h) v = printed_positive n p h _
 printed_literal u a (IsLiteral.negative n p q h) v = printed_negative n p h _
 printed_literal u a (IsLiteral.quoted t p) v = change (fixed (w.Text t) (said_text t v.0)) (quoted_again t p) (omega arith)
-printed_literal u a (IsLiteral.null p) v = change (fixed (w.Fixed m.Null) said_null) (null_again p) (omega arith)
+printed_literal u a (IsLiteral.null p) v = change (fixed (w.Fixed (m.Keyword kw.Null)) said_null) (null_again p) (omega arith)
 
 pub printed_operand : (u : List Lexeme) (a : OperandAst) → IsOperand u a → Valid u → Printed Ends (operand_text a) IsOperand (Like bare_operand a) (count u)
 printed_operand s c (IsOperand.column {u} {a} l) v =
@@ -119,8 +121,8 @@ printed_operand s c (IsOperand.literal {u} {a} l) v =
 
 -- ---- lists
 
-pub comma_said : Says Any (codes ", ") (w.Fixed m.Comma ∷ [])
-comma_said = before_blank (codes ",") (w.Fixed m.Comma) (says_before (codes ",") _ said_comma)
+pub comma_said : Says Any (codes ", ") (w.Fixed (m.Sign sg.Comma) ∷ [])
+comma_said = before_blank (codes ",") (w.Fixed (m.Sign sg.Comma)) (says_before (codes ",") _ said_comma)
 
 more_text : {A : Type 0} (L : List Lexeme → A → Type 0) (t : A → List ℕ) (u : List Lexeme) (all : List A) → Listed L u all → more (map t all) ≡ codes ", " ++ joined (map t all)
 more_text L t u all (Listed.one l) = refl
@@ -129,7 +131,7 @@ more_text L t u all (Listed.more p l k) = refl
 one_again : {A : Type 0} (L : List Lexeme → A → Type 0) (f : A → A) (a : A) (us : List Lexeme) (b : A) → L us b → Like f a b → (c : List A) × Listed L us c × Like (map f) (a ∷ []) c
 one_again L f a us b l e = (b ∷ [], Listed.one l, ap (λ z. z ∷ []) e)
 
-more_again : {A : Type 0} (L : List Lexeme → A → Type 0) (f : A → A) (a : A) (others : List A) (us : List Lexeme) (p : A × (ℕ × List A)) → Both L (Both (The (w.Fixed m.Comma)) (Listed L)) us p
+more_again : {A : Type 0} (L : List Lexeme → A → Type 0) (f : A → A) (a : A) (others : List A) (us : List Lexeme) (p : A × (ℕ × List A)) → Both L (Both (The (w.Fixed (m.Sign sg.Comma))) (Listed L)) us p
     → (Like f a p.0 × (Unit {0} × Like (map f) others p.1.1)) → (c : List A) × Listed L us c × Like (map f) (a ∷ others) c
 more_again L f a others us p (Both.both l (Both.both (The.the q) k)) e = (p.0 ∷ p.1.1, Listed.more q l k, ap_two (λ x y. x ∷ y) e.0 e.1.1)
 
@@ -139,7 +141,7 @@ unfolding same_mark
 printed_list L f t h s list (Listed.one {u} {a} l) v =
     subst (λ z. Printed Ends z (Listed L) (Like (map f) (a ∷ [])) (count u)) (sym (append-nil (t a))) (change (h u a l v) (one_again L f a) (omega arith))
 printed_list L f t h s list (Listed.more p {u} {v} {a} {others} l k) valid =
-    let rest = printed_list L f t h v others k (valid_right u (mark m.Comma p ∷ v) valid).1 in
-    let all : count (u ++ (mark m.Comma p ∷ v)) ≡ count u + count v = count_both u (mark m.Comma p ∷ v) in
-    subst (λ z. Printed Ends (t a ++ z) (Listed L) (Like (map f) (a ∷ others)) (count (u ++ (mark m.Comma p ∷ v)))) (sym (more_text L t v others k))
-    (change (pair (h u a l (valid_left u (mark m.Comma p ∷ v) valid)) (pair (fixed (w.Fixed m.Comma) comma_said) rest (λ r e. tt)) (λ r e. refl)) (more_again L f a others) (omega (arith, all)))
+    let rest = printed_list L f t h v others k (valid_right u (mark (m.Sign sg.Comma) p ∷ v) valid).1 in
+    let all : count (u ++ (mark (m.Sign sg.Comma) p ∷ v)) ≡ count u + count v = count_both u (mark (m.Sign sg.Comma) p ∷ v) in
+    subst (λ z. Printed Ends (t a ++ z) (Listed L) (Like (map f) (a ∷ others)) (count (u ++ (mark (m.Sign sg.Comma) p ∷ v)))) (sym (more_text L t v others k))
+    (change (pair (h u a l (valid_left u (mark (m.Sign sg.Comma) p ∷ v) valid)) (pair (fixed (w.Fixed (m.Sign sg.Comma)) comma_said) rest (λ r e. tt)) (λ r e. refl)) (more_again L f a others) (omega (arith, all)))

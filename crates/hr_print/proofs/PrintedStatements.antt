@@ -25,6 +25,8 @@ use Rattle.hr_parse.specs.declared.ast.ItemAst.TheVariants as item_of
 use Rattle.hr_parse.specs.declared.ast.Items.TheVariants as items_of
 use Rattle.hr_parse.specs.declared.word.Mark.{Mark}
 use Rattle.hr_parse.specs.declared.word.Mark.TheVariants as m
+use Rattle.hr_lex.specs.declared.token.Keyword.TheVariants as kw
+use Rattle.hr_parse.specs.declared.word.Sign.TheVariants as sg
 use Rattle.hr_parse.specs.declared.word.Word.TheVariants as w
 use Rattle.hr_parse.specs.declared.word.Lexeme.{Lexeme}
 use Rattle.hr_parse.specs.Words.{mark, compare, same_mark}
@@ -47,56 +49,56 @@ IsApart text = (rest : List ℕ) → Ends rest → Ends (text ++ rest)
 
 -- ---- items
 
-agg_again : (k : Mark) (word : AggWord) → ((p q r : ℕ) (u : List Lexeme) (a : ColumnAst) → g.IsColumn u a → g.IsItem (mark k p ∷ mark m.LeftParen q ∷ (u ++ (mark m.RightParen r ∷ []))) (item_of.Aggregate word a p))
+agg_again : (k : Mark) (word : AggWord) → ((p q r : ℕ) (u : List Lexeme) (a : ColumnAst) → g.IsColumn u a → g.IsItem (mark k p ∷ mark (m.Sign sg.LeftParen) q ∷ (u ++ (mark (m.Sign sg.RightParen) r ∷ []))) (item_of.Aggregate word a p))
     → (a : ColumnAst) (at : ℕ) (us : List Lexeme) (x : ℕ × (ℕ × (ColumnAst × ℕ))) → Both (The (w.Fixed k)) (Enclosed g.IsColumn) us x → (Unit {0} × (Unit {0} × (Like bare_column a x.1.1.0 × Unit {0})))
     → (b : ItemAst) × g.IsItem us b × Like bare_item (item_of.Aggregate word a at) b
 agg_again k word rule a at us x (Both.both (The.the q) (Both.both (The.the r) (Both.both {u} l (The.the s)))) h =
     (item_of.Aggregate word x.1.1.0 q, rule q r s u x.1.1.0 l, ap (λ c. item_of.Aggregate word c 0) h.1.1.0)
 
-count_all_again : (at : ℕ) (us : List Lexeme) (x : ℕ × (ℕ × (ℕ × ℕ))) → Both (The (w.Fixed m.Count)) (Enclosed (The (w.Fixed m.Star))) us x → (Unit {0} × (Unit {0} × (Unit {0} × Unit {0})))
+count_all_again : (at : ℕ) (us : List Lexeme) (x : ℕ × (ℕ × (ℕ × ℕ))) → Both (The (w.Fixed (m.Keyword kw.Count))) (Enclosed (The (w.Fixed (m.Sign sg.Star)))) us x → (Unit {0} × (Unit {0} × (Unit {0} × Unit {0})))
     → (b : ItemAst) × g.IsItem us b × Like bare_item (item_of.CountAll at) b
 count_all_again at us x (Both.both (The.the q) (Both.both (The.the r) (Both.both (The.the s) (The.the t)))) h = (item_of.CountAll q, g.IsItem.count_all q r s t, refl)
 
-enclosed_column : (u : List Lexeme) (r : ℕ) (a : ColumnAst) → g.IsColumn u a → Valid (u ++ (mark m.RightParen r ∷ []))
-    → Printed Ends (codes "(" ++ (p.column_text a ++ codes ")")) (Enclosed g.IsColumn) (λ x. Unit {0} × (Like bare_column a x.1.0 × Unit {0})) (suc (count (u ++ (mark m.RightParen r ∷ []))))
+enclosed_column : (u : List Lexeme) (r : ℕ) (a : ColumnAst) → g.IsColumn u a → Valid (u ++ (mark (m.Sign sg.RightParen) r ∷ []))
+    → Printed Ends (codes "(" ++ (p.column_text a ++ codes ")")) (Enclosed g.IsColumn) (λ x. Unit {0} × (Like bare_column a x.1.0 × Unit {0})) (suc (count (u ++ (mark (m.Sign sg.RightParen) r ∷ []))))
 unfolding same_mark
 enclosed_column u r a l h =
-    let n : count (u ++ (mark m.RightParen r ∷ [])) ≡ count u + 0 = count_both u (mark m.RightParen r ∷ []) in
-    change (printed_enclosed (printed_column u a l (valid_left u (mark m.RightParen r ∷ []) h))) (λ us x r e. (x, r, e)) (omega (arith, n))
+    let n : count (u ++ (mark (m.Sign sg.RightParen) r ∷ [])) ≡ count u + 0 = count_both u (mark (m.Sign sg.RightParen) r ∷ []) in
+    change (printed_enclosed (printed_column u a l (valid_left u (mark (m.Sign sg.RightParen) r ∷ []) h))) (λ us x r e. (x, r, e)) (omega (arith, n))
 
 printed_item : (u : List Lexeme) (a : ItemAst) → g.IsItem u a → Valid u → Printed Ends (p.item_text a) g.IsItem (Like bare_item a) (count u)
 unfolding same_mark
 printed_item s b (g.IsItem.count_all p q r t) h =
-    change (pair (fixed (w.Fixed m.Count) said_count) (printed_enclosed (fixed {F = Ends} (w.Fixed m.Star) (says_before (codes "*") _ said_star))) (λ r e. refl)) (count_all_again p) (omega arith)
+    change (pair (fixed (w.Fixed (m.Keyword kw.Count)) said_count) (printed_enclosed (fixed {F = Ends} (w.Fixed (m.Sign sg.Star)) (says_before (codes "*") _ said_star))) (λ r e. refl)) (count_all_again p) (omega arith)
 printed_item s b (g.IsItem.count p q r {u} {a} l) h =
-    change (pair (fixed (w.Fixed m.Count) said_count) (enclosed_column u r a l h.1.1) (λ r e. refl)) (agg_again m.Count word_of.Count (λ p q r u a l. g.IsItem.count p q r l) a p) (omega arith)
+    change (pair (fixed (w.Fixed (m.Keyword kw.Count)) said_count) (enclosed_column u r a l h.1.1) (λ r e. refl)) (agg_again (m.Keyword kw.Count) word_of.Count (λ p q r u a l. g.IsItem.count p q r l) a p) (omega arith)
 printed_item s b (g.IsItem.total p q r {u} {a} l) h =
-    change (pair (fixed (w.Fixed m.Sum) said_sum) (enclosed_column u r a l h.1.1) (λ r e. refl)) (agg_again m.Sum word_of.Sum (λ p q r u a l. g.IsItem.total p q r l) a p) (omega arith)
+    change (pair (fixed (w.Fixed (m.Keyword kw.Sum)) said_sum) (enclosed_column u r a l h.1.1) (λ r e. refl)) (agg_again (m.Keyword kw.Sum) word_of.Sum (λ p q r u a l. g.IsItem.total p q r l) a p) (omega arith)
 printed_item s b (g.IsItem.least p q r {u} {a} l) h =
-    change (pair (fixed (w.Fixed m.Min) said_min) (enclosed_column u r a l h.1.1) (λ r e. refl)) (agg_again m.Min word_of.Min (λ p q r u a l. g.IsItem.least p q r l) a p) (omega arith)
+    change (pair (fixed (w.Fixed (m.Keyword kw.Min)) said_min) (enclosed_column u r a l h.1.1) (λ r e. refl)) (agg_again (m.Keyword kw.Min) word_of.Min (λ p q r u a l. g.IsItem.least p q r l) a p) (omega arith)
 printed_item s b (g.IsItem.greatest p q r {u} {a} l) h =
-    change (pair (fixed (w.Fixed m.Max) said_max) (enclosed_column u r a l h.1.1) (λ r e. refl)) (agg_again m.Max word_of.Max (λ p q r u a l. g.IsItem.greatest p q r l) a p) (omega arith)
+    change (pair (fixed (w.Fixed (m.Keyword kw.Max)) said_max) (enclosed_column u r a l h.1.1) (λ r e. refl)) (agg_again (m.Keyword kw.Max) word_of.Max (λ p q r u a l. g.IsItem.greatest p q r l) a p) (omega arith)
 printed_item s b (g.IsItem.plain {u} {a} l) h =
     change (expr_printed u a l h).loose (λ us c k e. (item_of.Plain c, g.IsItem.plain k, ap item_of.Plain e)) (omega arith)
 
-star_again : (at : ℕ) (us : List Lexeme) (x : ℕ) → The (w.Fixed m.Star) us x → Unit {0} → (b : Items) × g.AreItems us b × Like bare_items (items_of.Star at) b
+star_again : (at : ℕ) (us : List Lexeme) (x : ℕ) → The (w.Fixed (m.Sign sg.Star)) us x → Unit {0} → (b : Items) × g.AreItems us b × Like bare_items (items_of.Star at) b
 star_again at us x (The.the q) h = (items_of.Star q, g.AreItems.star q, refl)
 
 printed_items : (u : List Lexeme) (a : Items) → g.AreItems u a → Valid u → Printed Ends (p.items_text a) g.AreItems (Like bare_items a) (count u)
 unfolding same_mark
-printed_items s b (g.AreItems.star p) h = change (fixed (w.Fixed m.Star) (says_before (codes "*") _ said_star)) (star_again p) (omega arith)
+printed_items s b (g.AreItems.star p) h = change (fixed (w.Fixed (m.Sign sg.Star)) (says_before (codes "*") _ said_star)) (star_again p) (omega arith)
 printed_items s b (g.AreItems.listed {u} {all} l) h =
     change (printed_list g.IsItem bare_item p.item_text printed_item u all l h) (λ us c k e. (items_of.Listed c, g.AreItems.listed k, ap items_of.Listed e)) (omega arith)
 
 -- ---- entries
 
-alias_again : (a : NameAt) (us : List Lexeme) (x : ℕ × NameAt) → Both (The (w.Fixed m.As)) g.IsName us x → (Unit {0} × Like bare_name a x.1)
+alias_again : (a : NameAt) (us : List Lexeme) (x : ℕ × NameAt) → Both (The (w.Fixed (m.Keyword kw.As))) g.IsName us x → (Unit {0} × Like bare_name a x.1)
     → (b : Option NameAt) × g.IsAlias us b × Like (option_map bare_name) (Some a) b
 alias_again a us x (Both.both (The.the q) l) h = (Some x.1, g.IsAlias.behind_as q l, ap Some h.1)
 
 some_alias : (u : List Lexeme) (a : NameAt) → g.IsName u a → Valid u → Printed Ends (p.alias_text (Some a)) g.IsAlias (Like (option_map bare_name) (Some a)) (count u)
 unfolding same_mark
-some_alias u a l h = change (pair (fixed (w.Fixed m.As) (between_blanks (codes "AS") (w.Fixed m.As) said_as)) (printed_name u a l h) (λ r e. tt)) (alias_again a) (omega arith)
+some_alias u a l h = change (pair (fixed (w.Fixed (m.Keyword kw.As)) (between_blanks (codes "AS") (w.Fixed (m.Keyword kw.As)) said_as)) (printed_name u a l h) (λ r e. tt)) (alias_again a) (omega arith)
 
 printed_alias : (u : List Lexeme) (a : Option NameAt) → g.IsAlias u a → Valid u → Printed Ends (p.alias_text a) g.IsAlias (Like (option_map bare_name) a) (count u)
 unfolding same_mark
@@ -119,7 +121,7 @@ printed_entry s c (g.IsEntry.entry {u} {v} {a} {b} l k) h =
 
 -- ---- joins, filters and groups
 
-join_again : (a : EntryAst) (b : CondAst) (us : List Lexeme) (x : ℕ × (EntryAst × (ℕ × CondAst))) → Both (The (w.Fixed m.Join)) (Both g.IsEntry (Both (The (w.Fixed m.On)) g.IsCond)) us x
+join_again : (a : EntryAst) (b : CondAst) (us : List Lexeme) (x : ℕ × (EntryAst × (ℕ × CondAst))) → Both (The (w.Fixed (m.Keyword kw.Join))) (Both g.IsEntry (Both (The (w.Fixed (m.Keyword kw.On))) g.IsCond)) us x
     → (Unit {0} × (Like bare_entry a x.1.0 × (Unit {0} × Like bare_cond b x.1.1.1))) → (c : Option JoinAst) × g.IsJoin us c × Like (option_map bare_join) (Some (record { entry = a; on = b })) c
 join_again a b us x (Both.both (The.the q) (Both.both l (Both.both (The.the r) k))) h =
     (Some (record { entry = x.1.0; on = x.1.1.1 }), g.IsJoin.join q (g.IsJoined.joined r l k), ap_two (λ (y : EntryAst) (z : CondAst). Some (record { entry = y; on = z })) h.1.0 h.1.1.1)
@@ -127,12 +129,12 @@ join_again a b us x (Both.both (The.the q) (Both.both l (Both.both (The.the r) k
 some_join : (u : List Lexeme) (a : JoinAst) → g.IsJoined u a → Valid u → Printed Ends (p.join_text (Some a)) g.IsJoin (Like (option_map bare_join) (Some a)) (count u)
 unfolding same_mark
 some_join s c (g.IsJoined.joined q {u} {v} {a} {b} l k) h =
-    let all : count (u ++ (mark m.On q ∷ v)) ≡ count u + count v = count_both u (mark m.On q ∷ v) in
+    let all : count (u ++ (mark (m.Keyword kw.On) q ∷ v)) ≡ count u + count v = count_both u (mark (m.Keyword kw.On) q ∷ v) in
     retext (codes " JOIN " ++ (p.entry_text a ++ (codes " ON " ++ p.cond_text b 0))) (codes " JOIN " ++ p.entry_text a ++ codes " ON " ++ p.cond_text b 0)
     (sym (four (codes " JOIN ") (p.entry_text a) (codes " ON ") (p.cond_text b 0)))
-    (change (pair (fixed (w.Fixed m.Join) (between_blanks (codes "JOIN") (w.Fixed m.Join) said_join))
-    (pair (printed_entry u a l (valid_left u (mark m.On q ∷ v) h))
-    (pair (fixed (w.Fixed m.On) (between_blanks (codes "ON") (w.Fixed m.On) said_on)) (cond_printed v b k (valid_right u (mark m.On q ∷ v) h).1).loose (λ r e. tt)) (λ r e. refl)) (λ r e. tt))
+    (change (pair (fixed (w.Fixed (m.Keyword kw.Join)) (between_blanks (codes "JOIN") (w.Fixed (m.Keyword kw.Join)) said_join))
+    (pair (printed_entry u a l (valid_left u (mark (m.Keyword kw.On) q ∷ v) h))
+    (pair (fixed (w.Fixed (m.Keyword kw.On)) (between_blanks (codes "ON") (w.Fixed (m.Keyword kw.On)) said_on)) (cond_printed v b k (valid_right u (mark (m.Keyword kw.On) q ∷ v) h).1).loose (λ r e. tt)) (λ r e. refl)) (λ r e. tt))
     (join_again a b) (omega (arith, all)))
 
 printed_join : (u : List Lexeme) (a : Option JoinAst) → g.IsJoin u a → Valid u → Printed Ends (p.join_text a) g.IsJoin (Like (option_map bare_join) a) (count u)
@@ -145,17 +147,17 @@ join_apart : (a : Option JoinAst) → IsApart (p.join_text a)
 join_apart None rest h = h
 join_apart (Some a) rest h = refl
 
-printed_filter : (u : List Lexeme) (a : Option CondAst) → g.Optional m.Where g.IsCond u a → Valid u → Printed Ends (p.filter_text a) (g.Optional m.Where g.IsCond) (Like (option_map bare_cond) a) (count u)
+printed_filter : (u : List Lexeme) (a : Option CondAst) → g.Optional (m.Keyword kw.Where) g.IsCond u a → Valid u → Printed Ends (p.filter_text a) (g.Optional (m.Keyword kw.Where) g.IsCond) (Like (option_map bare_cond) a) (count u)
 unfolding same_mark
 printed_filter s b g.Optional.none h = nothing 0 None g.Optional.none refl
 printed_filter s b (g.Optional.some p {u} {a} l) h =
-    change (pair (fixed (w.Fixed m.Where) (between_blanks (codes "WHERE") (w.Fixed m.Where) said_where)) (cond_printed u a l h.1).loose (λ r e. tt)) (some_again m.Where g.IsCond bare_cond a) (omega arith)
+    change (pair (fixed (w.Fixed (m.Keyword kw.Where)) (between_blanks (codes "WHERE") (w.Fixed (m.Keyword kw.Where)) said_where)) (cond_printed u a l h.1).loose (λ r e. tt)) (some_again (m.Keyword kw.Where) g.IsCond bare_cond a) (omega arith)
 
 filter_apart : (a : Option CondAst) → IsApart (p.filter_text a)
 filter_apart None rest h = h
 filter_apart (Some a) rest h = refl
 
-groups_again : (list : List ColumnAst) (us : List Lexeme) (x : ℕ × (ℕ × List ColumnAst)) → Both (The (w.Fixed m.Group)) (Both (The (w.Fixed m.By)) (g.Listed g.IsColumn)) us x
+groups_again : (list : List ColumnAst) (us : List Lexeme) (x : ℕ × (ℕ × List ColumnAst)) → Both (The (w.Fixed (m.Keyword kw.Group))) (Both (The (w.Fixed (m.Keyword kw.By))) (g.Listed g.IsColumn)) us x
     → (Unit {0} × (Unit {0} × Like (map bare_column) list x.1.1)) → (b : List ColumnAst) × g.AreGroups us b × Like (map bare_column) list b
 groups_again list us x (Both.both (The.the q) (Both.both (The.the r) l)) h = (x.1.1, g.AreGroups.groups q r l, h.1.1)
 
@@ -168,8 +170,8 @@ unfolding same_mark
 printed_groups s b g.AreGroups.none h = nothing 0 [] g.AreGroups.none refl
 printed_groups s b (g.AreGroups.groups q r {u} {all} l) h =
     retext (codes " GROUP BY " ++ p.joined (map p.column_text all)) (p.groups_text all) (sym (groups_shown u all l))
-    (change (pair (fixed (w.Fixed m.Group) (between_blanks (codes "GROUP") (w.Fixed m.Group) said_group))
-    (pair (fixed (w.Fixed m.By) (before_blank (codes "BY") (w.Fixed m.By) said_by)) (printed_list g.IsColumn bare_column p.column_text printed_column u all l h.1.1) (λ r e. tt)) (λ r e. tt))
+    (change (pair (fixed (w.Fixed (m.Keyword kw.Group)) (between_blanks (codes "GROUP") (w.Fixed (m.Keyword kw.Group)) said_group))
+    (pair (fixed (w.Fixed (m.Keyword kw.By)) (before_blank (codes "BY") (w.Fixed (m.Keyword kw.By)) said_by)) (printed_list g.IsColumn bare_column p.column_text printed_column u all l h.1.1) (λ r e. tt)) (λ r e. tt))
     (groups_again all) (omega arith))
 
 groups_apart : (a : List ColumnAst) → IsApart (p.groups_text a)
@@ -188,13 +190,13 @@ join_filter_apart c d e rest h =
 
 -- the parts of a SELECT behind its first word
 abbrev Selected : List Lexeme → Items × (ℕ × (EntryAst × (Option JoinAst × (Option CondAst × List ColumnAst)))) → Type 0
-Selected = Both g.AreItems (Both (The (w.Fixed m.From)) (Both g.IsEntry (Both g.IsJoin (Both (g.Optional m.Where g.IsCond) g.AreGroups))))
+Selected = Both g.AreItems (Both (The (w.Fixed (m.Keyword kw.From))) (Both g.IsEntry (Both g.IsJoin (Both (g.Optional (m.Keyword kw.Where) g.IsCond) g.AreGroups))))
 
 abbrev SameSelected : SelectAst → Items × (ℕ × (EntryAst × (Option JoinAst × (Option CondAst × List ColumnAst)))) → Type 0
 SameSelected s x = Like bare_items s.items x.0 × (Unit {0} × (Like bare_entry s.first x.1.1.0 × (Like (option_map bare_join) s.join x.1.1.1.0
     × (Like (option_map bare_cond) s.filter x.1.1.1.1.0 × Like (map bare_column) s.groups x.1.1.1.1.1))))
 
-select_again : (s : SelectAst) (us : List Lexeme) (x : ℕ × (Items × (ℕ × (EntryAst × (Option JoinAst × (Option CondAst × List ColumnAst)))))) → Both (The (w.Fixed m.Select)) Selected us x
+select_again : (s : SelectAst) (us : List Lexeme) (x : ℕ × (Items × (ℕ × (EntryAst × (Option JoinAst × (Option CondAst × List ColumnAst)))))) → Both (The (w.Fixed (m.Keyword kw.Select))) Selected us x
     → (Unit {0} × SameSelected s x.1) → (b : Ast) × g.IsCommand us b × Like bare (ast_of.Select s) b
 select_again s us x (Both.both (The.the q) (Both.both a (Both.both (The.the r) (Both.both b (Both.both c (Both.both d e)))))) h =
     let y = x.1.1.1 in (
@@ -207,17 +209,17 @@ printed_select : (u : List Lexeme) (a : SelectAst) → g.IsSelect u a → Valid 
 unfolding same_mark
 printed_select s t (g.IsSelect.select q {u} {v} {w = j} {x = f} {y} {a} {b} {c} {d} {e} l k i r o) h =
     let from_on : List Lexeme = v ++ (j ++ (f ++ y)) in
-    let rest = (valid_right u (mark m.From q ∷ from_on) h).1 in
+    let rest = (valid_right u (mark (m.Keyword kw.From) q ∷ from_on) h).1 in
     let join_on = valid_right v (j ++ (f ++ y)) rest in
     let filter_on = valid_right j (f ++ y) join_on in
-    let n : count (u ++ (mark m.From q ∷ from_on)) ≡ count u + count from_on = count_both u (mark m.From q ∷ from_on) in
+    let n : count (u ++ (mark (m.Keyword kw.From) q ∷ from_on)) ≡ count u + count from_on = count_both u (mark (m.Keyword kw.From) q ∷ from_on) in
     let n1 : count from_on ≡ count v + count (j ++ (f ++ y)) = count_both v (j ++ (f ++ y)) in
     let n2 : count (j ++ (f ++ y)) ≡ count j + count (f ++ y) = count_both j (f ++ y) in
     let n3 : count (f ++ y) ≡ count f + count y = count_both f y in
     retext _ _ (sym (seven (codes "SELECT ") (p.items_text a) (codes " FROM ") (p.entry_text b) (p.join_text c) (p.filter_text d) (p.groups_text e)))
-    (change (pair (fixed (w.Fixed m.Select) (before_blank (codes "SELECT") (w.Fixed m.Select) said_select))
-    (pair (printed_items u a l (valid_left u (mark m.From q ∷ from_on) h))
-    (pair (fixed (w.Fixed m.From) (between_blanks (codes "FROM") (w.Fixed m.From) said_from))
+    (change (pair (fixed (w.Fixed (m.Keyword kw.Select)) (before_blank (codes "SELECT") (w.Fixed (m.Keyword kw.Select)) said_select))
+    (pair (printed_items u a l (valid_left u (mark (m.Keyword kw.From) q ∷ from_on) h))
+    (pair (fixed (w.Fixed (m.Keyword kw.From)) (between_blanks (codes "FROM") (w.Fixed (m.Keyword kw.From)) said_from))
     (pair (printed_entry v b k (valid_left v (j ++ (f ++ y)) rest))
     (pair (printed_join j c i (valid_left j (f ++ y) join_on))
     (pair (printed_filter f d r (valid_left f y filter_on)) (printed_groups y e o (valid_right f y filter_on)) (groups_apart e))
@@ -238,8 +240,8 @@ tuple_again list at us x (Both.both (The.the q) (Both.both l (The.the r))) h =
 printed_tuple : (u : List Lexeme) (a : TupleAst) → g.IsTuple u a → Valid u → Printed Ends (p.tuple_text a) g.IsTuple (Like bare_tuple a) (count u)
 unfolding same_mark
 printed_tuple s b (g.IsTuple.tuple q r {u} {all} l) h =
-    let n : count (u ++ (mark m.RightParen r ∷ [])) ≡ count u + 0 = count_both u (mark m.RightParen r ∷ []) in
-    change (printed_enclosed (printed_list g.IsLiteral bare_literal p.literal_text printed_literal u all l (valid_left u (mark m.RightParen r ∷ []) h.1))) (tuple_again all q) (omega (arith, n))
+    let n : count (u ++ (mark (m.Sign sg.RightParen) r ∷ [])) ≡ count u + 0 = count_both u (mark (m.Sign sg.RightParen) r ∷ []) in
+    change (printed_enclosed (printed_list g.IsLiteral bare_literal p.literal_text printed_literal u all l (valid_left u (mark (m.Sign sg.RightParen) r ∷ []) h.1))) (tuple_again all q) (omega (arith, n))
 
 columns_again : (list : List NameAt) (us : List Lexeme) (x : ℕ × (List NameAt × ℕ)) → Enclosed (g.Listed g.IsName) us x → (Unit {0} × (Like (map bare_name) list x.1.0 × Unit {0}))
     → (b : List NameAt) × g.AreColumns us b × Like (map bare_name) list b
@@ -253,9 +255,9 @@ printed_columns : (u : List Lexeme) (a : List NameAt) → g.AreColumns u a → V
 unfolding same_mark
 printed_columns s b g.AreColumns.none h = nothing 0 [] g.AreColumns.none refl
 printed_columns s b (g.AreColumns.columns q r {u} {all} l) h =
-    let n : count (u ++ (mark m.RightParen r ∷ [])) ≡ count u + 0 = count_both u (mark m.RightParen r ∷ []) in
+    let n : count (u ++ (mark (m.Sign sg.RightParen) r ∷ [])) ≡ count u + 0 = count_both u (mark (m.Sign sg.RightParen) r ∷ []) in
     retext (codes " (" ++ (p.joined (map p.name_text all) ++ codes ")")) (p.columns_text all) (sym (columns_shown u all l))
-    (change (spaced (printed_enclosed (printed_list g.IsName bare_name p.name_text printed_name u all l (valid_left u (mark m.RightParen r ∷ []) h.1)))) (columns_again all) (omega (arith, n)))
+    (change (spaced (printed_enclosed (printed_list g.IsName bare_name p.name_text printed_name u all l (valid_left u (mark (m.Sign sg.RightParen) r ∷ []) h.1)))) (columns_again all) (omega (arith, n)))
 
 columns_apart : (a : List NameAt) → IsApart (p.columns_text a)
 columns_apart [] rest h = h
@@ -266,7 +268,7 @@ columns_values_apart [] t rest = refl
 columns_values_apart (c ∷ a) t rest = refl
 
 abbrev Inserted : List Lexeme → ℕ × (ℕ × (NameAt × (List NameAt × (ℕ × List TupleAst)))) → Type 0
-Inserted = Both (The (w.Fixed m.Insert)) (Both (The (w.Fixed m.Into)) (Both g.IsName (Both g.AreColumns (Both (The (w.Fixed m.Values)) (g.Listed g.IsTuple)))))
+Inserted = Both (The (w.Fixed (m.Keyword kw.Insert))) (Both (The (w.Fixed (m.Keyword kw.Into))) (Both g.IsName (Both g.AreColumns (Both (The (w.Fixed (m.Keyword kw.Values))) (g.Listed g.IsTuple)))))
 
 insert_again : (a : NameAt) (b : List NameAt) (c : List TupleAst) (us : List Lexeme) (x : ℕ × (ℕ × (NameAt × (List NameAt × (ℕ × List TupleAst))))) → Inserted us x
     → (Unit {0} × (Unit {0} × (Like bare_name a x.1.1.0 × (Like (map bare_name) b x.1.1.1.0 × (Unit {0} × Like (map bare_tuple) c x.1.1.1.1.1)))))
@@ -278,16 +280,16 @@ insert_again a b c us x (Both.both (The.the o) (Both.both (The.the q) (Both.both
 printed_insert : (u : List Lexeme) (a : InsertAst) → g.IsInsert u a → Valid u → Printed Ends (p.insert_text a) g.IsCommand (Like bare (ast_of.Insert a)) (count u)
 unfolding same_mark
 printed_insert s t (g.IsInsert.insert q r {u} {v} {w = x} {a} {b} {c} l k j) h =
-    let last : List Lexeme = mark m.Values r ∷ x in
+    let last : List Lexeme = mark (m.Keyword kw.Values) r ∷ x in
     let rest = valid_right u (v ++ last) h.1 in
     let n : count (u ++ (v ++ last)) ≡ count u + count (v ++ last) = count_both u (v ++ last) in
     let n1 : count (v ++ last) ≡ count v + count x = count_both v last in
     retext _ _ (sym (five (codes "INSERT INTO ") a.name (p.columns_text b) (codes " VALUES ") (p.joined (map p.tuple_text c))))
-    (change (pair (fixed (w.Fixed m.Insert) (before_blank (codes "INSERT") (w.Fixed m.Insert) said_insert))
-    (pair (fixed (w.Fixed m.Into) (before_blank (codes "INTO") (w.Fixed m.Into) said_into))
+    (change (pair (fixed (w.Fixed (m.Keyword kw.Insert)) (before_blank (codes "INSERT") (w.Fixed (m.Keyword kw.Insert)) said_insert))
+    (pair (fixed (w.Fixed (m.Keyword kw.Into)) (before_blank (codes "INTO") (w.Fixed (m.Keyword kw.Into)) said_into))
     (pair (printed_name u a l (valid_left u (v ++ last) h.1))
     (pair (printed_columns v b k (valid_left v last rest))
-    (pair (fixed (w.Fixed m.Values) (between_blanks (codes "VALUES") (w.Fixed m.Values) said_values))
+    (pair (fixed (w.Fixed (m.Keyword kw.Values)) (between_blanks (codes "VALUES") (w.Fixed (m.Keyword kw.Values)) said_values))
     (printed_list g.IsTuple bare_tuple p.tuple_text printed_tuple x c j (valid_right v last rest).1) (λ z ends. tt))
     (λ z ends. refl))
     (λ z ends. columns_values_apart b (p.joined (map p.tuple_text c)) z))
@@ -312,7 +314,7 @@ printed_set s c (g.IsSet.assigned q {u} {v} {a} {b} l k) h =
     (set_again a b) (omega (arith, n)))
 
 abbrev Updated : List Lexeme → ℕ × (NameAt × (ℕ × (List SetAst × Option CondAst))) → Type 0
-Updated = Both (The (w.Fixed m.Update)) (Both g.IsName (Both (The (w.Fixed m.Set)) (Both (g.Listed g.IsSet) (g.Optional m.Where g.IsCond))))
+Updated = Both (The (w.Fixed (m.Keyword kw.Update))) (Both g.IsName (Both (The (w.Fixed (m.Keyword kw.Set))) (Both (g.Listed g.IsSet) (g.Optional (m.Keyword kw.Where) g.IsCond))))
 
 update_again : (a : NameAt) (b : List SetAst) (c : Option CondAst) (us : List Lexeme) (x : ℕ × (NameAt × (ℕ × (List SetAst × Option CondAst)))) → Updated us x
     → (Unit {0} × (Like bare_name a x.1.0 × (Unit {0} × (Like (map bare_set) b x.1.1.1.0 × Like (option_map bare_cond) c x.1.1.1.1))))
@@ -324,14 +326,14 @@ update_again a b c us x (Both.both (The.the o) (Both.both l (Both.both (The.the 
 printed_update : (u : List Lexeme) (a : UpdateAst) → g.IsUpdate u a → Valid u → Printed Ends (p.update_text a) g.IsCommand (Like bare (ast_of.Update a)) (count u)
 unfolding same_mark
 printed_update s t (g.IsUpdate.update q {u} {v} {w = x} {a} {b} {c} l k j) h =
-    let rest : List Lexeme = mark m.Set q ∷ (v ++ x) in
+    let rest : List Lexeme = mark (m.Keyword kw.Set) q ∷ (v ++ x) in
     let after = (valid_right u rest h).1 in
     let n : count (u ++ rest) ≡ count u + count (v ++ x) = count_both u rest in
     let n1 : count (v ++ x) ≡ count v + count x = count_both v x in
     retext _ _ (sym (five (codes "UPDATE ") a.name (codes " SET ") (p.joined (map p.set_text b)) (p.filter_text c)))
-    (change (pair (fixed (w.Fixed m.Update) (before_blank (codes "UPDATE") (w.Fixed m.Update) said_update))
+    (change (pair (fixed (w.Fixed (m.Keyword kw.Update)) (before_blank (codes "UPDATE") (w.Fixed (m.Keyword kw.Update)) said_update))
     (pair (printed_name u a l (valid_left u rest h))
-    (pair (fixed (w.Fixed m.Set) (between_blanks (codes "SET") (w.Fixed m.Set) said_set))
+    (pair (fixed (w.Fixed (m.Keyword kw.Set)) (between_blanks (codes "SET") (w.Fixed (m.Keyword kw.Set)) said_set))
     (pair (printed_list g.IsSet bare_set p.set_text printed_set v b k (valid_left v x after)) (printed_filter x c j (valid_right v x after)) (filter_apart c))
     (λ z ends. tt))
     (λ z ends. refl))
@@ -339,7 +341,7 @@ printed_update s t (g.IsUpdate.update q {u} {v} {w = x} {a} {b} {c} l k j) h =
     (update_again a b c) (omega (arith, n, n1)))
 
 abbrev Deleted : List Lexeme → ℕ × (ℕ × (NameAt × Option CondAst)) → Type 0
-Deleted = Both (The (w.Fixed m.Delete)) (Both (The (w.Fixed m.From)) (Both g.IsName (g.Optional m.Where g.IsCond)))
+Deleted = Both (The (w.Fixed (m.Keyword kw.Delete))) (Both (The (w.Fixed (m.Keyword kw.From))) (Both g.IsName (g.Optional (m.Keyword kw.Where) g.IsCond)))
 
 delete_again : (a : NameAt) (b : Option CondAst) (us : List Lexeme) (x : ℕ × (ℕ × (NameAt × Option CondAst))) → Deleted us x
     → (Unit {0} × (Unit {0} × (Like bare_name a x.1.1.0 × Like (option_map bare_cond) b x.1.1.1)))
@@ -351,8 +353,8 @@ printed_delete : (u : List Lexeme) (a : DeleteAst) → g.IsDelete u a → Valid 
 unfolding same_mark
 printed_delete s t (g.IsDelete.delete q {u} {v} {a} {b} l k) h =
     let n : count (u ++ v) ≡ count u + count v = count_both u v in
-    change (pair (fixed (w.Fixed m.Delete) (before_blank (codes "DELETE") (w.Fixed m.Delete) said_delete))
-    (pair (fixed (w.Fixed m.From) (before_blank (codes "FROM") (w.Fixed m.From) said_from))
+    change (pair (fixed (w.Fixed (m.Keyword kw.Delete)) (before_blank (codes "DELETE") (w.Fixed (m.Keyword kw.Delete)) said_delete))
+    (pair (fixed (w.Fixed (m.Keyword kw.From)) (before_blank (codes "FROM") (w.Fixed (m.Keyword kw.From)) said_from))
     (pair (printed_name u a l (valid_left u v h.1)) (printed_filter v b k (valid_right u v h.1)) (filter_apart b))
     (λ z ends. tt))
     (λ z ends. tt))
@@ -371,6 +373,6 @@ pub printed_statement : (u : List Lexeme) (a : Ast) → g.IsStatement u a → Va
 unfolding same_mark
 printed_statement s b (g.IsStatement.plain {u} {a} l) h = change (printed_command u a l h) (λ us c k e. (c, g.IsStatement.plain k, e)) (omega arith)
 printed_statement s b (g.IsStatement.ended q {u} {a} l) h =
-    let last : List Lexeme = mark m.Semicolon q ∷ [] in
+    let last : List Lexeme = mark (m.Sign sg.Semicolon) q ∷ [] in
     let n : count (u ++ last) ≡ count u + 0 = count_both u last in
     change (printed_command u a l (valid_left u last h)) (λ us c k e. (c, g.IsStatement.plain k, e)) (omega (arith, n))

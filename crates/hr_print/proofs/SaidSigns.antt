@@ -8,6 +8,7 @@ use Rattle.hr_lex.specs.declared.token.TokenKind.{TokenKind}
 use Rattle.hr_lex.specs.declared.token.TokenKind.TheVariants as t
 use Rattle.hr_rel.specs.declared.expr.Op.TheVariants as op
 use Rattle.hr_parse.specs.declared.word.Mark.TheVariants as m
+use Rattle.hr_parse.specs.declared.word.Sign.TheVariants as sg
 use Rattle.hr_parse.specs.declared.word.Word.TheVariants as w
 use Rattle.hr_parse.specs.Lexemes.{word_of}
 use Rattle.hr_print.proofs.Spelled.{Read, Says, Any, Ends}
@@ -46,25 +47,25 @@ always_alone : (b : ℕ) → ((c : ℕ) → long_sign b c ≡ None) → (rest : 
 always_alone b none [] = tt
 always_alone b none (c ∷ rest) = none c
 
-pub said_left : Says Any (codes "(") (w.Fixed m.LeftParen ∷ [])
+pub said_left : Says Any (codes "(") (w.Fixed (m.Sign sg.LeftParen) ∷ [])
 said_left front rest h = read_sign t.LeftParen 40 front rest (refl, refl, refl, refl) refl (always_alone 40 (λ c. refl) rest)
 
-pub said_right : Says Any (codes ")") (w.Fixed m.RightParen ∷ [])
+pub said_right : Says Any (codes ")") (w.Fixed (m.Sign sg.RightParen) ∷ [])
 said_right front rest h = read_sign t.RightParen 41 front rest (refl, refl, refl, refl) refl (always_alone 41 (λ c. refl) rest)
 
-pub said_comma : Says Any (codes ",") (w.Fixed m.Comma ∷ [])
+pub said_comma : Says Any (codes ",") (w.Fixed (m.Sign sg.Comma) ∷ [])
 said_comma front rest h = read_sign t.Comma 44 front rest (refl, refl, refl, refl) refl (always_alone 44 (λ c. refl) rest)
 
-pub said_dot : Says Any (codes ".") (w.Fixed m.Dot ∷ [])
+pub said_dot : Says Any (codes ".") (w.Fixed (m.Sign sg.Dot) ∷ [])
 said_dot front rest h = read_sign t.Dot 46 front rest (refl, refl, refl, refl) refl (always_alone 46 (λ c. refl) rest)
 
-pub said_star : Says Any (codes "*") (w.Fixed m.Star ∷ [])
+pub said_star : Says Any (codes "*") (w.Fixed (m.Sign sg.Star) ∷ [])
 said_star front rest h = read_sign t.Star 42 front rest (refl, refl, refl, refl) refl (always_alone 42 (λ c. refl) rest)
 
-pub said_plus : Says Any (codes "+") (w.Fixed m.Plus ∷ [])
+pub said_plus : Says Any (codes "+") (w.Fixed (m.Sign sg.Plus) ∷ [])
 said_plus front rest h = read_sign t.Plus 43 front rest (refl, refl, refl, refl) refl (always_alone 43 (λ c. refl) rest)
 
-pub said_minus : Says Any (codes "-") (w.Fixed m.Minus ∷ [])
+pub said_minus : Says Any (codes "-") (w.Fixed (m.Sign sg.Minus) ∷ [])
 said_minus front rest h = read_sign t.Minus 45 front rest (refl, refl, refl, refl) refl (always_alone 45 (λ c. refl) rest)
 
 -- ---- comparisons

@@ -13,7 +13,6 @@ use Rattle.hr_lex.specs.declared.token.Keyword.TheVariants as k
 use Rattle.hr_lex.specs.declared.token.TokenKind.TheVariants as t
 use Rattle.hr_parse.specs.declared.word.Mark.TheVariants as m
 use Rattle.hr_parse.specs.declared.word.Word.TheVariants as w
-use Rattle.hr_parse.specs.Lexemes.{mark_of}
 use Rattle.hr_print.proofs.Spelled.{Read, Says, Ends}
 use Rattle.hr_print.proofs.SaidTokens.{read_token, no_name_ahead, whole_run}
 
@@ -50,7 +49,7 @@ run_token at b bytes rest run h =
     ∙ (ap (λ n. word_of at n (keyword (take n text))) len ∙ ap (λ z. word_of at (length (b ∷ bytes)) (keyword z)) (take_at (b ∷ bytes) rest (length (b ∷ bytes)) refl))
 
 -- a keyword's bytes say its mark
-pub said_keyword : (bytes : List ℕ) (k : Keyword) → IsRun bytes → keyword bytes ≡ Some k → Says Ends bytes (w.Fixed (mark_of k) ∷ [])
+pub said_keyword : (bytes : List ℕ) (k : Keyword) → IsRun bytes → keyword bytes ≡ Some k → Says Ends bytes (w.Fixed (m.Keyword k) ∷ [])
 said_keyword [] k run is = absurd run
 said_keyword (b ∷ bytes) k run is = λ front rest h.
     read_token (t.Keyword k) front b bytes rest (letter_not_blank b run.0) (run_token (length front) b bytes rest run h ∙ ap (word_of (length front) (length (b ∷ bytes))) is)
@@ -68,102 +67,102 @@ said_name (b ∷ bytes) good = λ front rest h.
 
 -- ---- the keywords of printed texts
 
-pub said_select : Says Ends (codes "SELECT") (w.Fixed m.Select ∷ [])
+pub said_select : Says Ends (codes "SELECT") (w.Fixed (m.Keyword k.Select) ∷ [])
 unfolding keyword
 said_select = said_keyword (codes "SELECT") k.Select (refl, refl) refl
 
-pub said_from : Says Ends (codes "FROM") (w.Fixed m.From ∷ [])
+pub said_from : Says Ends (codes "FROM") (w.Fixed (m.Keyword k.From) ∷ [])
 unfolding keyword
 said_from = said_keyword (codes "FROM") k.From (refl, refl) refl
 
-pub said_join : Says Ends (codes "JOIN") (w.Fixed m.Join ∷ [])
+pub said_join : Says Ends (codes "JOIN") (w.Fixed (m.Keyword k.Join) ∷ [])
 unfolding keyword
 said_join = said_keyword (codes "JOIN") k.Join (refl, refl) refl
 
-pub said_on : Says Ends (codes "ON") (w.Fixed m.On ∷ [])
+pub said_on : Says Ends (codes "ON") (w.Fixed (m.Keyword k.On) ∷ [])
 unfolding keyword
 said_on = said_keyword (codes "ON") k.On (refl, refl) refl
 
-pub said_where : Says Ends (codes "WHERE") (w.Fixed m.Where ∷ [])
+pub said_where : Says Ends (codes "WHERE") (w.Fixed (m.Keyword k.Where) ∷ [])
 unfolding keyword
 said_where = said_keyword (codes "WHERE") k.Where (refl, refl) refl
 
-pub said_group : Says Ends (codes "GROUP") (w.Fixed m.Group ∷ [])
+pub said_group : Says Ends (codes "GROUP") (w.Fixed (m.Keyword k.Group) ∷ [])
 unfolding keyword
 said_group = said_keyword (codes "GROUP") k.Group (refl, refl) refl
 
-pub said_by : Says Ends (codes "BY") (w.Fixed m.By ∷ [])
+pub said_by : Says Ends (codes "BY") (w.Fixed (m.Keyword k.By) ∷ [])
 unfolding keyword
 said_by = said_keyword (codes "BY") k.By (refl, refl) refl
 
-pub said_insert : Says Ends (codes "INSERT") (w.Fixed m.Insert ∷ [])
+pub said_insert : Says Ends (codes "INSERT") (w.Fixed (m.Keyword k.Insert) ∷ [])
 unfolding keyword
 said_insert = said_keyword (codes "INSERT") k.Insert (refl, refl) refl
 
-pub said_into : Says Ends (codes "INTO") (w.Fixed m.Into ∷ [])
+pub said_into : Says Ends (codes "INTO") (w.Fixed (m.Keyword k.Into) ∷ [])
 unfolding keyword
 said_into = said_keyword (codes "INTO") k.Into (refl, refl) refl
 
-pub said_values : Says Ends (codes "VALUES") (w.Fixed m.Values ∷ [])
+pub said_values : Says Ends (codes "VALUES") (w.Fixed (m.Keyword k.Values) ∷ [])
 unfolding keyword
 said_values = said_keyword (codes "VALUES") k.Values (refl, refl) refl
 
-pub said_update : Says Ends (codes "UPDATE") (w.Fixed m.Update ∷ [])
+pub said_update : Says Ends (codes "UPDATE") (w.Fixed (m.Keyword k.Update) ∷ [])
 unfolding keyword
 said_update = said_keyword (codes "UPDATE") k.Update (refl, refl) refl
 
-pub said_set : Says Ends (codes "SET") (w.Fixed m.Set ∷ [])
+pub said_set : Says Ends (codes "SET") (w.Fixed (m.Keyword k.Set) ∷ [])
 unfolding keyword
 said_set = said_keyword (codes "SET") k.Set (refl, refl) refl
 
-pub said_delete : Says Ends (codes "DELETE") (w.Fixed m.Delete ∷ [])
+pub said_delete : Says Ends (codes "DELETE") (w.Fixed (m.Keyword k.Delete) ∷ [])
 unfolding keyword
 said_delete = said_keyword (codes "DELETE") k.Delete (refl, refl) refl
 
-pub said_and : Says Ends (codes "AND") (w.Fixed m.And ∷ [])
+pub said_and : Says Ends (codes "AND") (w.Fixed (m.Keyword k.And) ∷ [])
 unfolding keyword
 said_and = said_keyword (codes "AND") k.And (refl, refl) refl
 
-pub said_or : Says Ends (codes "OR") (w.Fixed m.Or ∷ [])
+pub said_or : Says Ends (codes "OR") (w.Fixed (m.Keyword k.Or) ∷ [])
 unfolding keyword
 said_or = said_keyword (codes "OR") k.Or (refl, refl) refl
 
-pub said_not : Says Ends (codes "NOT") (w.Fixed m.Not ∷ [])
+pub said_not : Says Ends (codes "NOT") (w.Fixed (m.Keyword k.Not) ∷ [])
 unfolding keyword
 said_not = said_keyword (codes "NOT") k.Not (refl, refl) refl
 
-pub said_is : Says Ends (codes "IS") (w.Fixed m.Is ∷ [])
+pub said_is : Says Ends (codes "IS") (w.Fixed (m.Keyword k.Is) ∷ [])
 unfolding keyword
 said_is = said_keyword (codes "IS") k.Is (refl, refl) refl
 
-pub said_null : Says Ends (codes "NULL") (w.Fixed m.Null ∷ [])
+pub said_null : Says Ends (codes "NULL") (w.Fixed (m.Keyword k.Null) ∷ [])
 unfolding keyword
 said_null = said_keyword (codes "NULL") k.Null (refl, refl) refl
 
-pub said_between : Says Ends (codes "BETWEEN") (w.Fixed m.Between ∷ [])
+pub said_between : Says Ends (codes "BETWEEN") (w.Fixed (m.Keyword k.Between) ∷ [])
 unfolding keyword
 said_between = said_keyword (codes "BETWEEN") k.Between (refl, refl) refl
 
-pub said_in : Says Ends (codes "IN") (w.Fixed m.In ∷ [])
+pub said_in : Says Ends (codes "IN") (w.Fixed (m.Keyword k.In) ∷ [])
 unfolding keyword
 said_in = said_keyword (codes "IN") k.In (refl, refl) refl
 
-pub said_as : Says Ends (codes "AS") (w.Fixed m.As ∷ [])
+pub said_as : Says Ends (codes "AS") (w.Fixed (m.Keyword k.As) ∷ [])
 unfolding keyword
 said_as = said_keyword (codes "AS") k.As (refl, refl) refl
 
-pub said_count : Says Ends (codes "COUNT") (w.Fixed m.Count ∷ [])
+pub said_count : Says Ends (codes "COUNT") (w.Fixed (m.Keyword k.Count) ∷ [])
 unfolding keyword
 said_count = said_keyword (codes "COUNT") k.Count (refl, refl) refl
 
-pub said_sum : Says Ends (codes "SUM") (w.Fixed m.Sum ∷ [])
+pub said_sum : Says Ends (codes "SUM") (w.Fixed (m.Keyword k.Sum) ∷ [])
 unfolding keyword
 said_sum = said_keyword (codes "SUM") k.Sum (refl, refl) refl
 
-pub said_min : Says Ends (codes "MIN") (w.Fixed m.Min ∷ [])
+pub said_min : Says Ends (codes "MIN") (w.Fixed (m.Keyword k.Min) ∷ [])
 unfolding keyword
 said_min = said_keyword (codes "MIN") k.Min (refl, refl) refl
 
-pub said_max : Says Ends (codes "MAX") (w.Fixed m.Max ∷ [])
+pub said_max : Says Ends (codes "MAX") (w.Fixed (m.Keyword k.Max) ∷ [])
 unfolding keyword
 said_max = said_keyword (codes "MAX") k.Max (refl, refl) refl

@@ -2,6 +2,7 @@
 use Rattle.std.specs.Prelude.{◌≡◌, ℕ, suc, List, [], ◌∷◌, map, if◌then◌else◌}
 use Rattle.hr_parse.specs.declared.ast.Ast.{Ast}
 use Rattle.hr_parse.specs.declared.word.Mark.TheVariants as m
+use Rattle.hr_parse.specs.declared.word.Sign.TheVariants as sg
 use Rattle.hr_parse.specs.declared.word.Word.{Word}
 use Rattle.hr_parse.specs.declared.word.Lexeme.{Lexeme}
 use Rattle.hr_parse.specs.Words.{is_mark}
@@ -23,7 +24,7 @@ says lexemes = map (λ x. x.word) lexemes
 -- how many parentheses open
 abbrev pub opened : List Word → ℕ
 opened [] = 0
-opened (x ∷ rest) = if is_mark m.LeftParen x then suc (opened rest) else opened rest
+opened (x ∷ rest) = if is_mark (m.Sign sg.LeftParen) x then suc (opened rest) else opened rest
 
 -- how many parentheses open in a text, apart from those within quotes
 abbrev pub parentheses : List ℕ → ℕ

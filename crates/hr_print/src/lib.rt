@@ -5,6 +5,3 @@ mod parts;
 mod printing;
 
 pub use printing::print;
-
-#[cfg(test)]
-mod tests;

@@ -220,15 +220,15 @@ pub fn cond(out: &mut Vec<u8>, whole: &CondAst, least: u8) -> Result<(), AllocEr
             cond(out, inner.get(), 2)
         }
         CondAst::Compare(op, left, right) => {
-            operand(out, left)?;
+            operand(out, left.get())?;
             put(out, op_text(*op))?;
-            operand(out, right)
+            operand(out, right.get())
         }
         CondAst::IsNull {
             operand: of,
             negated,
         } => {
-            operand(out, of)?;
+            operand(out, of.get())?;
             put(out, is_text(*negated))
         }
         CondAst::Between {
@@ -237,18 +237,18 @@ pub fn cond(out: &mut Vec<u8>, whole: &CondAst, least: u8) -> Result<(), AllocEr
             high,
             negated,
         } => {
-            operand(out, of)?;
+            operand(out, of.get())?;
             put(out, between_text(*negated))?;
-            operand(out, low)?;
+            operand(out, low.get())?;
             put(out, b" AND ")?;
-            operand(out, high)
+            operand(out, high.get())
         }
         CondAst::Among {
             operand: of,
             list,
             negated,
         } => {
-            operand(out, of)?;
+            operand(out, of.get())?;
             put(out, in_text(*negated))?;
             joined(out, list.as_slice())?;
             put(out, b")")
@@ -262,8 +262,8 @@ pub fn expr(out: &mut Vec<u8>, whole: &ExprAst, least: u8) -> Result<(), AllocEr
     ensures { OnOk result (out.new.items ≡ out.old.items ++ spec.expr_text whole.now least) }
 {
     match &whole.kind {
-        ExprKind::Literal(l) => literal(out, l),
-        ExprKind::Column(c) => column(out, c),
+        ExprKind::Literal(l) => literal(out, l.get()),
+        ExprKind::Column(c) => column(out, c.get()),
         ExprKind::Add(left, right) => {
             open(out, 0 < least)?;
             expr(out, left.get(), 0)?;

@@ -1,5 +1,0 @@
-use Rattle.hr_parse.proofs.Whole.{one_statement}
-use Rattle.hr_parse.proofs.texts.one_tree.Goals as goal
-
-pub returns : goal.returns
-returns c = one_statement

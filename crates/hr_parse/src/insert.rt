@@ -1,0 +1,74 @@
+//! INSERT.
+
+ghost use Rattle.std.specs.Prelude.{[]};
+ghost use Rattle.hr_parse.specs.Readers as spec;
+ghost use Rattle.hr_parse.specs.Readers.{Reads};
+
+use crate::ast::{InsertAst, LiteralAst, NameAt, TupleAst};
+use crate::list::{Part, listed};
+use crate::parser::{Parser, Stop};
+use crate::word::{Mark, Sign};
+use hr_lex::Keyword;
+use hr_rel::Seq;
+
+impl<'a> Parser<'a> {
+    /// `tuple = "(" literal { "," literal } ")"`
+    #[tactic(auto, unfolding(crate::specs::Readers::tuple))]
+    fn tuple(&mut self, depth: usize) -> Result<TupleAst, Stop>
+        ensures { Reads (spec.tuple depth self.old.rest.now) result self.new.rest.now }
+    {
+        let at = self.expect_at(Mark::Sign(Sign::LeftParen))?;
+        let values = listed::<LiteralAst>(self, depth)?;
+        self.expect(Mark::Sign(Sign::RightParen))?;
+        Ok(TupleAst { values, at })
+    }
+
+    /// A tuple, and then the end.
+    #[tactic(auto, unfolding(crate::specs::Readers::only_tuple))]
+    pub fn only_tuple(&mut self, depth: usize) -> Result<TupleAst, Stop>
+        ensures { Reads (spec.only_tuple depth self.old.rest.now) result self.new.rest.now }
+    {
+        let tuple = self.tuple(depth)?;
+        self.expect_end()?;
+        Ok(tuple)
+    }
+
+    /// `[ "(" name { "," name } ")" ]`
+    #[tactic(auto, unfolding(crate::specs::Readers::named_columns))]
+    fn named_columns(&mut self, depth: usize) -> Result<Seq<NameAt>, Stop>
+        ensures { Reads (spec.named_columns depth self.old.rest.now) result self.new.rest.now }
+    {
+        if self.eat(Mark::Sign(Sign::LeftParen)) {
+            let columns = listed::<NameAt>(self, depth)?;
+            self.expect(Mark::Sign(Sign::RightParen))?;
+            Ok(columns)
+        } else {
+            Ok(Seq::new(self.alloc))
+        }
+    }
+
+    /// What stands behind INSERT.
+    #[tactic(auto, unfolding(crate::specs::Readers::insert))]
+    pub fn insert(&mut self, depth: usize) -> Result<InsertAst, Stop>
+        ensures { Reads (spec.insert depth self.old.rest.now) result self.new.rest.now }
+    {
+        self.expect(Mark::Keyword(Keyword::Into))?;
+        let table = self.name()?;
+        let columns = self.named_columns(depth)?;
+        self.expect(Mark::Keyword(Keyword::Values))?;
+        let tuples = listed::<TupleAst>(self, depth)?;
+        Ok(InsertAst {
+            table,
+            columns,
+            tuples,
+        })
+    }
+}
+
+impl Part for TupleAst {
+    ghost reader = { spec.tuple };
+
+    fn part(parser: &mut Parser<'_>, depth: usize) -> Result<TupleAst, Stop> {
+        parser.tuple(depth)
+    }
+}
