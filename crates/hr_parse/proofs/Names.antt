@@ -7,7 +7,8 @@ use Rattle.std.proofs.lemmas.Bool.Decides.{nat_tests}
 use Rattle.std.proofs.lemmas.List.{length-map}
 use Rattle.hr_lex.specs.Bytes.{is_name_byte}
 use Rattle.hr_lex.specs.Tokens.{IsNameText}
-use Rattle.hr_rel.specs.Printable.{is_printable, IsText}
+use Rattle.hr_base.specs.Bytes.{is_printable}
+use Rattle.hr_rel.specs.Printable.{IsText}
 
 small_byte : (b : ℕ) → is_name_byte b ≡ true → is_printable (to_ascii_lowercase b) ≡ true
 small_byte b e = grind (arith, nat_tests)

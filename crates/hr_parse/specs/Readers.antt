@@ -1,4 +1,5 @@
--- Reading a statement word by word, one reader for each rule of the grammar. That it reads what the grammar gives is proved apart.
+-- Not to be believed: reading a statement word by word, one reader for each rule of the grammar, which mirrors the code. That
+-- it reads what the grammar gives is proved apart.
 use Rattle.std.specs.Prelude.{◌≡◌, ℕ, Bool, true, false, List, [], ◌∷◌, ◌++◌, drop, ℤ, pos, zero, suc, ◌^◌, nat_le, nat_lt, Option, Some, None, Result, Ok, Err, if◌then◌else◌}
 use Rattle.std.specs.Option.{option_map}
 use Rattle.hr_rel.specs.declared.expr.Op.{Op}

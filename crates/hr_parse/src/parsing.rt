@@ -15,6 +15,7 @@ use crate::ast::{Ast, TupleAst};
 use crate::lexeme::lexemes;
 use crate::parser::{Parser, Stop};
 use crate::word::Lexeme;
+use hr_base::limits::MAX_SQL_BYTES;
 use hr_lex::{LexError, Reading, read};
 use std::alloc::{AllocError, Global};
 
@@ -88,10 +89,10 @@ fn told<T: Drop>(
 
 /// How many bytes the text has, where they are few enough to be read.
 fn end_of(text: &str) -> u32
-    ensures { length text.now ≤ 1024 → result ≡ length text.now }
+    ensures { length text.now ≤ MAX_SQL_BYTES → result ≡ length text.now }
 {
-    if text.len() > 1024 {
-        return 1024;
+    if text.len() > MAX_SQL_BYTES {
+        return MAX_SQL_BYTES as u32;
     }
     text.len() as u32
 }
@@ -134,7 +135,7 @@ fn moved(error: Option<LexError>, from: u32) -> Result<Option<LexError>, AllocEr
 /// The tuple that a text is from the place `from` on, as an INSERT has it. Its places, and that of an error, are
 /// counted in the whole text; whatever stands behind the tuple is unexpected.
 pub fn parse_tuple(alloc: Global, text: &str, from: usize) -> Result<TupleAst, ParseError>
-    requires short { length text.now ≤ 1024 }
+    requires short { length text.now ≤ MAX_SQL_BYTES }
     requires within { IsCharBoundary text.now from }
     ensures exact { (result ≡ parsed_tuple from text.now) ⊎ (result ≡ Err ParseError.Memory) }
     ensures ok { IfOk result (λ a. IsTupleFrom from text.now a) }

@@ -3,13 +3,13 @@ use Rattle.std.proofs.Common.{◌≡◌, ℕ, suc, ◌+◌, ◌-◌, true, false
 use Rattle.std.specs.List.{AllByRecursion}
 use Rattle.std.proofs.lemmas.Bool.{cases_Bool, eqb-true}
 use Rattle.std.proofs.lemmas.List.{length-append, take_at, append_assoc}
-use Rattle.hr_lex.specs.Bytes.{is_printable}
+use Rattle.hr_base.specs.Bytes.{is_printable}
 use Rattle.hr_lex.specs.Quotes.{closing}
 use Rattle.hr_lex.specs.Tokens.{token, token_at, quoted}
 use Rattle.hr_lex.specs.declared.token.TokenKind.TheVariants as kind
 use Rattle.hr_parse.specs.declared.word.Word.TheVariants as w
 use Rattle.hr_parse.specs.Lexemes.{undoubled, between_quotes}
-use Rattle.hr_print.specs.Print.{doubled}
+use Rattle.hr_base.specs.Texts.{doubled}
 use Rattle.hr_print.proofs.Spelled.{Read, Says, Ends}
 use Rattle.hr_print.proofs.SaidTokens.{read_token, apart}
 

@@ -8,13 +8,13 @@ use Rattle.std.proofs.lemmas.Bool.Decides.{nat_tests}
 use Rattle.std.proofs.lemmas.List.{length-map, length_push, drop_at}
 use Rattle.std.proofs.lemmas.List.Folds.{length-prefix_len}
 use Rattle.std.proofs.lemmas.Str.Ascii.{lowercase-lowercase}
-use Rattle.hr_lex.specs.Bytes.{is_blank, is_letter, is_digit, is_name_byte, is_printable}
+use Rattle.hr_lex.specs.Bytes.{is_blank, is_letter, is_digit, is_name_byte}
+use Rattle.hr_base.specs.Bytes.{is_printable}
 use Rattle.hr_lex.specs.Keywords.{lookup, keywords, keyword}
 use Rattle.hr_lex.specs.Numbers.{number, fitting}
 use Rattle.hr_lex.specs.Quotes.{closing}
 use Rattle.hr_lex.specs.Signs.{long_sign, short_sign}
-use Rattle.hr_lex.specs.Tokens.{Tokens, token_at, number_of, quoted, sign_of, sign_at, with_token, reading, written}
-use Rattle.hr_lex.specs.Tokens.{word_of as token_of_word}
+use Rattle.hr_lex.specs.Tokens.{Tokens, token_at, number_of, quoted, sign_of, sign_at, with_token, reading, written, word_of as token_of_word}
 use Rattle.hr_lex.specs.declared.quote.QuoteFault.{QuoteFault}
 use Rattle.hr_lex.specs.declared.quote.QuoteFault.TheVariants as fault
 use Rattle.hr_lex.specs.declared.token.Keyword.{Keyword}

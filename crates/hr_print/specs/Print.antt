@@ -1,6 +1,7 @@
 -- The one text of a tree. Places play no part in it.
-use Rattle.std.specs.Prelude.{ℕ, Bool, true, false, ◌==◌, nat_lt, List, [], ◌∷◌, ◌++◌, map, Option, Some, None, codes, if◌then◌else◌}
+use Rattle.std.specs.Prelude.{ℕ, Bool, true, false, nat_lt, List, [], ◌∷◌, ◌++◌, map, Option, Some, None, codes}
 use Rattle.std.specs.Fmt.{signed_decimal}
+use Rattle.hr_base.specs.Texts.{doubled}
 use Rattle.hr_rel.specs.declared.expr.Op.{Op}
 use Rattle.hr_rel.specs.declared.expr.Op.TheVariants as op
 use Rattle.hr_parse.specs.declared.ast.Ast.{Ast}
@@ -61,11 +62,6 @@ dotted (Some a) = codes "." ++ a.name
 
 abbrev pub column_text : ColumnAst → List ℕ
 column_text c = c.first.name ++ dotted c.second
-
--- each quote twice
-abbrev pub doubled : List ℕ → List ℕ
-doubled [] = []
-doubled (b ∷ bytes) = (if b == 39 then 39 ∷ 39 ∷ [] else b ∷ []) ++ doubled bytes
 
 abbrev pub value_text : LitAst → List ℕ
 value_text lit.Null = codes "NULL"

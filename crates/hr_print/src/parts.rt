@@ -1,6 +1,7 @@
 //! The texts of the parts that statements are made of.
 
 ghost use Rattle.std.specs.Prelude.{◌≡◌, ◌∷◌, [], ◌++◌, map, codes, OnOk};
+ghost use Rattle.hr_base.specs.Texts.{doubled};
 ghost use Rattle.hr_print.specs.Print as spec;
 
 use hr_parse::{ColumnAst, CondAst, ExprAst, ExprKind, LitAst, LiteralAst, NameAt, OperandAst};
@@ -30,7 +31,7 @@ pub fn column(out: &mut Vec<u8>, column: &ColumnAst) -> Result<(), AllocError>
 
 /// A byte within quotes.
 fn quoted_byte(out: &mut Vec<u8>, b: u8) -> Result<(), AllocError>
-    ensures { OnOk result (out.new.items ≡ out.old.items ++ spec.doubled (b ∷ [])) }
+    ensures { OnOk result (out.new.items ≡ out.old.items ++ doubled (b ∷ [])) }
 {
     if b == b'\'' {
         put(out, b"''")
@@ -40,7 +41,7 @@ fn quoted_byte(out: &mut Vec<u8>, b: u8) -> Result<(), AllocError>
 }
 
 fn doubled(out: &mut Vec<u8>, mut text: &[u8]) -> Result<(), AllocError>
-    ensures { OnOk result (out.new.items ≡ out.old.items ++ spec.doubled text.entry.now) }
+    ensures { OnOk result (out.new.items ≡ out.old.items ++ doubled text.entry.now) }
 {
     while let [b, rest @ ..] = text {
         quoted_byte(out, *b)?;

@@ -8,6 +8,7 @@ ghost use Rattle.hr_print.specs.Canonical.{Alike, IsRead, parentheses};
 ghost use Rattle.hr_print.specs.Print as spec;
 
 use crate::parts::{Shown, column, cond, expr, joined, put};
+use hr_base::limits::MAX_SQL_BYTES;
 use hr_parse::{
     AggWord, Ast, ColumnAst, CondAst, DeleteAst, EntryAst, InsertAst, ItemAst, Items, JoinAst,
     NameAt, SelectAst, SetAst, TupleAst, UpdateAst,
@@ -221,7 +222,7 @@ fn statement(out: &mut Vec<u8>, ast: &Ast) -> Result<(), AllocError>
 pub fn print(alloc: Global, ast: &Ast) -> Result<Vec<u8>, AllocError>
     ensures text { IfOk result (λ bytes. bytes.items ≡ spec.text ast.now) }
     // Where it is short enough to be read, it is read as the same tree apart from places.
-    ensures reread { IfOk result (λ bytes. IsRead ast.now → length bytes.items ≤ 1024
+    ensures reread { IfOk result (λ bytes. IsRead ast.now → length bytes.items ≤ MAX_SQL_BYTES
         → (b : Ast) × IsTextOf bytes.items b × Alike b ast.now) }
     // All trees that are the same apart from places have this text.
     ensures canonical { IfOk result (λ bytes. (b : Ast) → Alike b ast.now → spec.text b ≡ bytes.items) }

@@ -1,5 +1,5 @@
 use Rattle.std.proofs.Common.{◌≡◌, ◌++◌, length}
-use Rattle.hr_print.specs.Print.{doubled}
+use Rattle.hr_base.specs.Texts.{doubled}
 use Rattle.hr_print.proofs.parts.doubled.Given as goal
 
 abbrev pub invariant-loop-text : goal.invariant-loop-text
