@@ -73,7 +73,7 @@ module _ (h : History) (g : NumbersAt h) where
   -- none is out at r
   replied_to : (r : ℕ) → Numbers (begun h) (λ t. phase_of t h) (log h) (λ t. length (submits t h)) (λ t. length (given_to t h)) (λ s. is_waiting (reply_to s h)) (λ q. if r == q then None else out_at q h)
   replied_to r =
-      redirected (begun h) (λ t. phase_of t h) (log h) (λ t. length (submits t h)) (λ t. length (given_to t h)) (λ s. is_waiting (reply_to s h)) (λ q. out_at q h) g
+      redirected g
       (λ q. if r == q then None else out_at q h) (λ q t i e. g.runs q t i (out_gone (r == q) (out_at q h) (job.Run t i) e))
 
   pub at_restarted : (c r count : ℕ) → NumbersAt (record { caller = c; event = event.Restarted r count } ∷ h)
@@ -81,7 +81,7 @@ module _ (h : History) (g : NumbersAt h) where
 
   pub at_take : (c r : ℕ) (j : Job) → ((t i : ℕ) → j ≡ job.Run t i → RunTaken r t i h) → NumbersAt (record { caller = c; event = event.Take r j } ∷ h)
   at_take c r j taken =
-      redirected (begun h) (λ t. phase_of t h) (log h) (λ t. length (submits t h)) (λ t. length (given_to t h)) (λ s. is_waiting (reply_to s h)) (λ q. out_at q h) g
+      redirected g
       (λ q. if r == q then Some j else out_at q h) (λ q t i e. of_out q t i (out_new (r == q) (out_at q h) j (job.Run t i) e))
     where
       of_out : (q t i : ℕ) → (((r == q) ≡ true) × (j ≡ job.Run t i)) ⊎ (out_at q h ≡ Some (job.Run t i)) → IsBorn (length (begun h)) t × (i ≤ length (submits t h))
@@ -128,21 +128,21 @@ module _ (h : History) (g : NumbersAt h) where
 
     one_given : is_given t r h ≡ true → Numbers (begun h) (λ u. phase_of u h) (log h) (λ u. length (submits u h)) Answers Waits (λ q. if r == q then None else out_at q h)
     one_given is =
-        let where_ = given_where t i r h out is in
+        let facts = given_where t i r h out is in
         let run = g.runs r t i out in
         let session = numbered_some (begun h) t run.0 in
         let more : Answers t ≡ length (given_to t h) + 1 = one_more (is_given t r h) _ (given_to t h) is in
-        let le : length (given_to t h) + 1 ≤ length (submits t h) = omega (arith, where_.0, run.1) in
+        let le : length (given_to t h) + 1 ≤ length (submits t h) = omega (arith, facts.0, run.1) in
         let gives_now : (q : ℕ) → gives_to q r (out_at r h) h ≡ is_of q t h = λ q. gives q ∙ ap (λ b. is_of q t h && b) is ∙ and_true (is_of q t h) in
         let next : Numbers (begun h) (λ u. phase_of u h) (log h) (λ u. length (submits u h)) Answers Waits (λ q. out_at q h) =
-        stays_out (begun h) (λ u. phase_of u h) (log h) (λ u. length (submits u h)) (λ u. length (given_to u h)) (λ q. is_waiting (reply_to q h)) (λ q. out_at q h) g
-        t session.0 session.1 where_.2 (λ u. phase_of u h) (λ u. length (submits u h)) Answers Waits
+        stays_out g
+        t session.0 session.1 facts.2 (λ u. phase_of u h) (λ u. length (submits u h)) Answers Waits
         (λ u other. refl) (λ u other. refl) (λ u other. other_given u other)
         (λ q other. ap (λ b. is_waiting (reply_if b (told.Answered a) (reply_to q h))) (gives_now q) ∙ told_as_before t session.0 h session.1 q (told.Answered a) (reply_to q h) other)
-        (λ place e. open_unlogged (phase_of t h) place where_.2 e) (omega arith)
+        (λ place e. open_unlogged (phase_of t h) place facts.2 e) (omega arith)
         (subst (λ n. IsBalanced (phase_of t h) (length (submits t h)) n (Waits session.0)) (sym more)
-        (answered (phase_of t h) (length (submits t h)) (length (given_to t h)) (is_waiting (reply_to session.0 h)) (Waits session.0) where_.2 le (g.balance t session.0 session.1))) in
-        redirected (begun h) (λ u. phase_of u h) (log h) (λ u. length (submits u h)) Answers Waits (λ q. out_at q h) next
+        (answered (phase_of t h) (length (submits t h)) (length (given_to t h)) (is_waiting (reply_to session.0 h)) (Waits session.0) facts.2 le (g.balance t session.0 session.1))) in
+        redirected next
         (λ q. if r == q then None else out_at q h) (λ q u k e. g.runs q u k (out_gone (r == q) (out_at q h) (job.Run u k) e))
 
     pub at_done : NumbersAt (record { caller = c; event = event.Give r (reply.Ran (run.Done a)) } ∷ h)

@@ -104,7 +104,7 @@ module _ (h : History) (k : Kept h) (r : ℕ) where
   module _ (f : ℕ) (nothing : due f h ≡ None) where
     calmed : Words (primary_of h) false
     calmed =
-        calm r (primary_of h) (is_some (went h)) (λ t. is_open (phase_of t h)) (λ t. length (given_to t h)) (λ t. length (attempt t J)) (out_at r h) (λ t. is_preempted r t h) (settled J).lost its
+        calm its
         (λ t o gone. unborn_has (λ u born o_u. refused_all f h (none_for_gone f h nothing) gone u born o_u) t o)
 
     pub lead_at_begin : (c session txn : ℕ) → txn ≡ length (begun h) + 1 → LeadsAt r (record { caller = c; event = event.Begin session txn } ∷ h)
@@ -120,7 +120,7 @@ module _ (h : History) (k : Kept h) (r : ℕ) where
     ends_calm : (txn : ℕ) (p : Phase) → is_open (phase_of txn h) ≡ true
         → Leads r (primary_of h) false (λ t. is_open (if txn == t then p else phase_of t h)) (λ t. length (given_to t h)) (λ t. length (attempt t J)) (out_at r h) (λ t. is_preempted r t h) (settled J).lost
     ends_calm txn p o =
-        closes r (primary_of h) false (λ t. is_open (phase_of t h)) (λ t. length (given_to t h)) (λ t. length (attempt t J)) (out_at r h) (λ t. is_preempted r t h) (settled J).lost calmed
+        closes calmed
         (λ t. is_open (if txn == t then p else phase_of t h)) (λ t now. was t now (same_or_not txn t))
       where
         was : (t : ℕ) → is_open (if txn == t then p else phase_of t h) ≡ true → (txn ≡ t) ⊎ (txn ≡ t → ⊥) → is_open (phase_of t h) ≡ true
@@ -146,7 +146,7 @@ module _ (h : History) (k : Kept h) (r : ℕ) where
             → Leads r (primary_of h) false (λ t. is_open (phase_of t h)) (λ t. length (given_to t h)) (λ t. length (attempt t J)) (if b then Some j else out_at r h) (λ t. is_preempted r t h) (settled J).lost
         by_test true e =
             let same = eqb-true q r e in
-            takes r (primary_of h) false (λ t. is_open (phase_of t h)) (λ t. length (given_to t h)) (λ t. length (attempt t J)) (out_at r h) (λ t. is_preempted r t h) (settled J).lost calmed j
+            takes calmed j
             (λ t i e o. of_run t i same (run_taken f q h lt t i k.numbers (subst (IsJobOf (view_of f h) q) e is)))
             (λ t e. (let w = rollback_taken f q h lt t (subst (IsJobOf (view_of f h) q) e is) in elim w.why [ inl closed ↦ inl closed | inr was ↦ inr (ap (λ p. is_preempted p t h) (sym same) ∙ was) ]))
             (λ t e. closed_place (phase_of t h) (suc (count (journal_of q h))) ((k.numbers.logged t (suc (count (journal_of q h)))).1 (commit_taken f q h lt t k.numbers (subst (IsJobOf (view_of f h) q) e is)).next))
@@ -158,7 +158,7 @@ module _ (h : History) (k : Kept h) (r : ℕ) where
       where
         by_test : (b : Bool) → Words (if b then None else primary_of h) (is_some (gone_if (true && b) q why.Lost (length h)))
         by_test true =
-            goes r (primary_of h) false (λ t. is_open (phase_of t h)) (λ t. length (given_to t h)) (λ t. length (attempt t J)) (out_at r h) (λ t. is_preempted r t h) (settled J).lost calmed
+            goes calmed
         by_test false = calmed
 
     given_elsewhere : (q : ℕ) (a : Answer) → (q ≡ r → ⊥) → fits_job (reply.Ran (run.Done a)) (out_at q h) ≡ true
@@ -166,7 +166,7 @@ module _ (h : History) (k : Kept h) (r : ℕ) where
         (λ t. length (attempt t J)) (out_at r h) (λ t. is_preempted r t h) (settled J).lost
     given_elsewhere q a other fits =
         let o = ran_out (run.Done a) (out_at q h) fits in
-        gives_elsewhere r (primary_of h) false (λ t. is_open (phase_of t h)) (λ t. length (given_to t h)) (λ t. length (attempt t J)) (out_at r h) (λ t. is_preempted r t h) (settled J).lost calmed
+        gives_elsewhere calmed
         (λ t. length (if is_given t q h then given_to t h ++ record { answer = a; stamp = length (log h) } ∷ [] else given_to t h)) (λ t. at_least (is_given t q h) _ (given_to t h))
         (λ primary t. kept o.0 o.1 o.2 t (λ p. other (same_some q r (sym p ∙ primary))) (same_or_not o.0 t))
         (λ none t. kept o.0 o.1 o.2 t (λ p. some_none q (sym p ∙ none)) (same_or_not o.0 t))
@@ -202,7 +202,7 @@ module _ (h : History) (k : Kept h) (r : ℕ) where
     ends_all : (q : ℕ) (lost : Bool) → q ≡ r
         → Leads r (other_than q (primary_of h)) (is_some (gone_if (true && is_some_of q (primary_of h)) q why.Lost (length h))) (λ t. is_open (phase_of t h)) (λ t. length (given_to t h)) (λ t. 0) None (λ t. false) lost
     ends_all q lost same =
-        all_end r (primary_of h) false (λ t. is_open (phase_of t h)) (λ t. length (given_to t h)) (λ t. length (attempt t J)) (out_at r h) (λ t. is_preempted r t h) (settled J).lost calmed
+        all_end calmed
         (other_than q (primary_of h)) (is_some (gone_if (true && is_some_of q (primary_of h)) q why.Lost (length h))) lost
         (λ e. other_not r (primary_of h) (ap (λ x. other_than x (primary_of h)) (sym same) ∙ e)) (by_test (is_some_of q (primary_of h)))
       where
@@ -214,7 +214,7 @@ module _ (h : History) (k : Kept h) (r : ℕ) where
     ends_one : (t : ℕ) → (is_open (phase_of t h) ≡ false) ⊎ (is_preempted r t h ≡ true)
         → Leads r (primary_of h) false (λ u. is_open (phase_of u h)) (λ u. length (given_to u h)) (λ u. length (if u == t then [] else attempt u J)) None (λ u. not (u == t) && is_preempted r u h) (settled J).lost
     ends_one t why =
-        one_ends r (primary_of h) false (λ u. is_open (phase_of u h)) (λ u. length (given_to u h)) (λ u. length (attempt u J)) (out_at r h) (λ u. is_preempted r u h) (settled J).lost calmed
+        one_ends calmed
         t (λ u. length (if u == t then [] else attempt u J)) (λ u. not (u == t) && is_preempted r u h) why
         (ap length (if_same t t [] (attempt t J) refl)) (ap (λ b. not b && is_preempted r t h) (eq-eqb t t refl))
         (λ u other. ap length (if_other u t [] (attempt u J) (λ e. other (sym e)))) (λ u other. ap (λ b. not b && is_preempted r u h) (ne_eqb u t (λ e. other (sym e))))
@@ -223,7 +223,7 @@ module _ (h : History) (k : Kept h) (r : ℕ) where
         → After (primary_of h) false (λ u. length (if is_given u q h then given_to u h ++ record { answer = a; stamp = length (log h) } ∷ [] else given_to u h)) (Some (Ran t stmt (run.Done a)))
     done_now q t i a stmt same out =
         let out_q : out_at q h ≡ Some (job.Run t i) = ap (λ p. out_at p h) same ∙ out in
-        runs_on r (primary_of h) false (λ u. is_open (phase_of u h)) (λ u. length (given_to u h)) (λ u. length (attempt u J)) (out_at r h) (λ u. is_preempted r u h) (settled J).lost calmed
+        runs_on calmed
         t i (λ u. length (if is_given u q h then given_to u h ++ record { answer = a; stamp = length (log h) } ∷ [] else given_to u h)) (λ u. length (attempt u (Ran t stmt (run.Done a) ∷ J)))
         refl out ((k.replicas r).runs t i out)
         (ap length (if_same t t _ (attempt t J) refl) ∙ length-append (attempt t J) (record { stmt = stmt; answer = a } ∷ []))
@@ -244,7 +244,7 @@ module _ (h : History) (k : Kept h) (r : ℕ) where
         nobody none u (inr other) = given_not u t i q h (ap (λ p. out_at p h) same ∙ out) other
 
     quiet : Leads r (primary_of h) false (λ t. is_open (phase_of t h)) (λ t. length (given_to t h)) (λ t. length (attempt t J)) None (λ t. is_preempted r t h) (settled J).lost
-    quiet = silent r (primary_of h) false (λ t. is_open (phase_of t h)) (λ t. length (given_to t h)) (λ t. length (attempt t J)) (out_at r h) (λ t. is_preempted r t h) (settled J).lost calmed
+    quiet = silent calmed
 
     abbrev Then : ℕ → JobReply → Option Call → Type 0
     Then q told c =
@@ -300,7 +300,7 @@ module _ (h : History) (k : Kept h) (r : ℕ) where
         by_test true e =
             let out_r : out_at r h ≡ Some job.Restart = subst (λ p. out_at p h ≡ Some job.Restart) (eqb-true q r e) out in
             subst (λ o. After (primary_of h) false (λ t. length (given_to t h)) (restart_of o n)) (sym out_r)
-            (all_end r (primary_of h) false (λ t. is_open (phase_of t h)) (λ t. length (given_to t h)) (λ t. length (attempt t J)) (out_at r h) (λ t. is_preempted r t h) (settled J).lost calmed
+            (all_end calmed
             (primary_of h) false false (λ p. not_both (settled J).lost ((k.replicas r).lost out_r) (its.live p)) calmed.vacant)
         by_test false e = calmed
 
@@ -310,12 +310,12 @@ module _ (h : History) (k : Kept h) (r : ℕ) where
         by_primary : (o : Option ℕ) → primary_of h ≡ o → Words None (is_some {T = Gone} (option_map (λ (p : ℕ). record { from = p; why = why.Suspected; at = length h }) o))
         by_primary None e = subst (λ p. Words p false) e calmed
         by_primary (Some p) e =
-            goes r (primary_of h) false (λ t. is_open (phase_of t h)) (λ t. length (given_to t h)) (λ t. length (attempt t J)) (out_at r h) (λ t. is_preempted r t h) (settled J).lost calmed
+            goes calmed
 
   ends_in_turn : (txn : ℕ) (p : Phase) → is_open p ≡ false
       → Leads r (primary_of h) (is_some (went h)) (λ t. is_open (if txn == t then p else phase_of t h)) (λ t. length (given_to t h)) (λ t. length (attempt t J)) (out_at r h) (λ t. is_preempted r t h) (settled J).lost
   ends_in_turn txn p closed =
-      closes r (primary_of h) (is_some (went h)) (λ t. is_open (phase_of t h)) (λ t. length (given_to t h)) (λ t. length (attempt t J)) (out_at r h) (λ t. is_preempted r t h) (settled J).lost its
+      closes its
       (λ t. is_open (if txn == t then p else phase_of t h)) (λ t now. was t now (same_or_not txn t))
     where
       was : (t : ℕ) → is_open (if txn == t then p else phase_of t h) ≡ true → (txn ≡ t) ⊎ (txn ≡ t → ⊥) → is_open (phase_of t h) ≡ true
@@ -333,12 +333,12 @@ module _ (h : History) (k : Kept h) (r : ℕ) where
     where
       by_test : (b : Bool) → Words (if b then None else primary_of h) (is_some (if b then Some record { from = q; why = why.Convicted; at = length h } else went h))
       by_test true =
-          goes r (primary_of h) (is_some (went h)) (λ t. is_open (phase_of t h)) (λ t. length (given_to t h)) (λ t. length (attempt t J)) (out_at r h) (λ t. is_preempted r t h) (settled J).lost its
+          goes its
       by_test false = its
 
   pub lead_at_new : (f c q : ℕ) → IsElected (view_of f h) (turn_of h) q → LeadsAt r (record { caller = c; event = event.NewPrimary q } ∷ h)
   lead_at_new f c q is =
-      elects r (primary_of h) (is_some (went h)) (λ t. is_open (phase_of t h)) (λ t. length (given_to t h)) (λ t. length (attempt t J)) (out_at r h) (λ t. is_preempted r t h) (settled J).lost its
+      elects its
       q is.vacant (λ t o gone. (unborn_has (λ u born o_u. refused_all f h is.settled gone u born o_u) t o).0)
       (λ same. ap (λ p. (settled (journal_of p h)).lost) (sym same) ∙ sym (lost_seen f q h is.replica) ∙ live (replica_in (view_of f h) q).lost (and_parts (not (replica_in (view_of f h) q).lost) _ is.live).0)
     where
@@ -373,6 +373,6 @@ module _ (h : History) (k : Kept h) (r : ℕ) where
       by_test : (b : Bool) → (q == r) ≡ b
           → Leads r (primary_of h) (is_some (went h)) (λ t. is_open (phase_of t h)) (λ t. length (given_to t h)) (λ t. length (attempt t J)) (out_at r h) (λ t. (b && (txn == t) && is_touched t J) || is_preempted r t h) (settled J).lost
       by_test true e =
-          preempted_more r (primary_of h) (is_some (went h)) (λ t. is_open (phase_of t h)) (λ t. length (given_to t h)) (λ t. length (attempt t J)) (out_at r h) (λ t. is_preempted r t h) (settled J).lost its
+          preempted_more its
           (λ t. (true && (txn == t) && is_touched t J) || is_preempted r t h) (secondary true e refl) (λ t was. or_right _ (is_preempted r t h) was) (runs true e)
       by_test false e = its

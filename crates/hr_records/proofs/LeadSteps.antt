@@ -8,7 +8,7 @@ use Rattle.hr_records.proofs.Options.{some_none, same_some}
 use Rattle.hr_records.proofs.Places.{same_or_not}
 use Rattle.hr_records.proofs.NumberSteps.{not_both}
 
-module _ (r : ℕ) (primary : Option ℕ) (gone : Bool) (active : ℕ → Bool) (given att : ℕ → ℕ) (out : Option Job) (preempted : ℕ → Bool) (lost : Bool) (g : Leads r primary gone active given att out preempted lost) where
+module _ {r : ℕ} {primary : Option ℕ} {gone : Bool} {active : ℕ → Bool} {given att : ℕ → ℕ} {out : Option Job} {preempted : ℕ → Bool} {lost : Bool} (g : Leads r primary gone active given att out preempted lost) where
   -- once all that were open when the primary went are refused, it doesn't matter that it did
   pub calm : ((t : ℕ) → active t ≡ true → gone ≡ true → (given t ≡ 0) × ((i : ℕ) → out ≡ Some (job.Run t i) → ⊥)) → Leads r primary false active given att out preempted lost
   calm refused = record {

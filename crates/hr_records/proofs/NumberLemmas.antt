@@ -105,7 +105,7 @@ module _ (h : History) (g : NumbersAt h) where
   pub at_begin : (c session txn : ℕ) → txn ≡ length (begun h) + 1 → ((t : ℕ) → session_of t h ≡ Some session → is_open (phase_of t h) ≡ true → ⊥) → NumbersAt (record { caller = c; event = event.Begin session txn } ∷ h)
   at_begin c session txn next none =
       let same : Numbers (begun h ++ session ∷ []) (λ t. phase_of t h) (log h) (λ t. length (submits t h)) (λ t. length (given_to t h)) (λ s. is_waiting (reply_to s h)) (λ r. out_at r h) =
-      begins (begun h) (λ t. phase_of t h) (log h) (λ t. length (submits t h)) (λ t. length (given_to t h)) (λ s. is_waiting (reply_to s h)) (λ r. out_at r h) g session none in
+      begins g session none in
       let path : (λ t. phase_of t h) ≡ (λ t. if txn == t then phase.Active else phase_of t h) = λ i t. sym (phase_at_begin txn next t) i in
       let subs : (λ t. length (submits t h)) ≡ (λ t. length (if txn == t then [] else submits t h)) = λ i t. length (sym (submits_at_begin txn next t) i) in
       let givs : (λ t. length (given_to t h)) ≡ (λ t. length (if txn == t then [] else given_to t h)) = λ i t. length (sym (given_at_begin txn next t) i) in
@@ -126,7 +126,7 @@ module _ (h : History) (g : NumbersAt h) where
       let s = on.session in
       let more = length_more (txn == txn) txn stmt (eq-eqb txn txn refl) in
       let idle = idle_balance txn on in
-      stays_out (begun h) (λ t. phase_of t h) (log h) (λ t. length (submits t h)) (λ t. length (given_to t h)) (λ q. is_waiting (reply_to q h)) (λ r. out_at r h) g
+      stays_out g
       txn s on.its on.is_open (λ t. phase_of t h) (λ t. length (next_submits t (event.Submit txn index stmt) (submits t h))) (λ t. length (given_to t h)) (λ q. is_waiting (if is_of q txn h then Waiting else reply_to q h))
       (λ t other. refl) (λ t other. ap length (if_other txn t _ (submits t h) other)) (λ t other. refl) (λ q other. waits_as_before txn s h on.its q (reply_to q h) other)
       (λ place e. open_unlogged (phase_of txn h) place on.is_open e) (omega (arith, more))
@@ -144,7 +144,7 @@ module _ (h : History) (g : NumbersAt h) where
       let s = on.session in
       let end = phase.Asked (asks h + 1) in
       let now : (if txn == txn then end else phase_of txn h) ≡ end = if_same txn txn end (phase_of txn h) refl in
-      stays_out (begun h) (λ t. phase_of t h) (log h) (λ t. length (submits t h)) (λ t. length (given_to t h)) (λ q. is_waiting (reply_to q h)) (λ r. out_at r h) g
+      stays_out g
       txn s on.its on.is_open (λ t. if txn == t then end else phase_of t h) (λ t. length (submits t h)) (λ t. length (given_to t h)) (λ q. is_waiting (if is_of q txn h then Waiting else reply_to q h))
       (λ t other. if_other txn t end (phase_of t h) other) (λ t other. refl) (λ t other. refl) (λ q other. waits_as_before txn s h on.its q (reply_to q h) other)
       (λ place e. asked_unlogged (asks h + 1) place (sym now ∙ e))
@@ -159,7 +159,7 @@ module _ (h : History) (g : NumbersAt h) where
       → Numbers (begun h) (λ t. if txn == t then end else phase_of t h) (log h) (λ t. length (submits t h)) (λ t. length (given_to t h)) waits (λ r. out_at r h)
   ends txn s its o end unlogged balanced waits same =
       let now : (if txn == txn then end else phase_of txn h) ≡ end = if_same txn txn end (phase_of txn h) refl in
-      stays_out (begun h) (λ t. phase_of t h) (log h) (λ t. length (submits t h)) (λ t. length (given_to t h)) (λ q. is_waiting (reply_to q h)) (λ r. out_at r h) g
+      stays_out g
       txn s its o (λ t. if txn == t then end else phase_of t h) (λ t. length (submits t h)) (λ t. length (given_to t h)) waits
       (λ t other. if_other txn t end (phase_of t h) other) (λ t other. refl) (λ t other. refl) same
       (λ place e. unlogged place (sym now ∙ e))
@@ -186,7 +186,7 @@ module _ (h : History) (g : NumbersAt h) where
       let end = phase.Logged (length (log h) + 1) in
       let r = told.Committed (length (log h) + 1) in
       let now : (if txn == txn then end else phase_of txn h) ≡ end = if_same txn txn end (phase_of txn h) refl in
-      is_logged (begun h) (λ t. phase_of t h) (log h) (λ t. length (submits t h)) (λ t. length (given_to t h)) (λ q. is_waiting (reply_to q h)) (λ r. out_at r h) g
+      is_logged g
       txn s its o (λ t. if txn == t then end else phase_of t h) (λ t. length (submits t h)) (λ t. length (given_to t h)) (λ q. is_waiting (reply_if (is_of q txn h) r (reply_to q h)))
       (λ t other. if_other txn t end (phase_of t h) other) (λ t other. refl) (λ t other. refl) (λ q other. told_as_before txn s h its q r (reply_to q h) other)
       now (omega arith)

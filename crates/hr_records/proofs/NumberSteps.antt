@@ -70,7 +70,7 @@ answered (phase.Logged place) s g w z h le b = cc
 answered phase.RolledBack s g w z h le b = cc
 answered phase.Refused s g w z h le b = cc
 
-module _ (sessions : List ℕ) (phases : ℕ → Phase) (decided : List ℕ) (sub giv : ℕ → ℕ) (waits : ℕ → Bool) (out : ℕ → Option Job) (g : Numbers sessions phases decided sub giv waits out) where
+module _ {sessions : List ℕ} {phases : ℕ → Phase} {decided : List ℕ} {sub giv : ℕ → ℕ} {waits : ℕ → Bool} {out : ℕ → Option Job} (g : Numbers sessions phases decided sub giv waits out) where
   -- an unborn number isn't a born one
   apart : (t u : ℕ) → (IsBorn (length sessions) t → ⊥) → IsBorn (length sessions) u → t ≡ u → ⊥
   apart t u unborn born e = unborn (subst (IsBorn (length sessions)) (sym e) born)

@@ -64,7 +64,7 @@ module _ (h : History) (k : Kept h) (r : ℕ) where
 
   pub part_at_submit : (c txn index : ℕ) (stmt : Stmt) → GoesOn txn h → AtReplicaAt r (record { caller = c; event = event.Submit txn index stmt } ∷ h)
   part_at_submit c txn index stmt on =
-      grown (λ t. submits t h) (log h) (out_at r h) (journal_of r h) its (λ t. if txn == t then submits t h ++ stmt ∷ [] else submits t h)
+      grown its (λ t. if txn == t then submits t h ++ stmt ∷ [] else submits t h)
       (λ t. longer (txn == t) t) (λ i t at. sym (if_other txn t _ (submits t h) (unlogged txn i t on.is_open at)))
     where
       longer : (b : Bool) (t : ℕ) → Begins (submits t h) (if b then submits t h ++ stmt ∷ [] else submits t h)
@@ -72,7 +72,7 @@ module _ (h : History) (k : Kept h) (r : ℕ) where
       longer false t = ([], append-nil (submits t h))
 
   pub part_at_decide : (c txn : ℕ) → AtReplicaAt r (record { caller = c; event = event.Decide txn } ∷ h)
-  part_at_decide c txn = decides (λ t. submits t h) (log h) (out_at r h) (journal_of r h) its txn
+  part_at_decide c txn = decides its txn
 
   module _ (f : ℕ) where
     pub part_at_take : (c q : ℕ) (j : Job) → q < 2 * f + 1 → IsJobOf (view_of f h) q j → AtReplicaAt r (record { caller = c; event = event.Take q j } ∷ h)
@@ -86,7 +86,7 @@ module _ (h : History) (k : Kept h) (r : ℕ) where
 
         of_job : q ≡ r → AtReplica (λ t. submits t h) (log h) (Some j) J
         of_job same =
-            takes (λ t. submits t h) (log h) (out_at r h) J its j
+            takes its j
             (λ t i e. index t i same (run_taken f q h lt t i k.numbers (subst (IsJobOf (view_of f h) q) e is)))
             (λ t e. (let c = commit_taken f q h lt t k.numbers (subst (IsJobOf (view_of f h) q) e is) in
             (subst (λ p. slice_get (log h) (count (journal_of p h)) ≡ Some t) same c.next, subst (λ p. length (attempt t (journal_of p h)) ≡ length (submits t h)) same c.whole)))
@@ -110,16 +110,16 @@ module _ (h : History) (k : Kept h) (r : ℕ) where
       let i = o.1 in
       let run = k.numbers.runs r t i o.2 in
       subst (λ p. AtReplica (λ u. submits u h) (log h) None (next_journal (call_of p (reply.Ran x) (stmt_at h)) J)) (sym o.2)
-      (told_run (λ u. submits u h) (log h) (out_at r h) J its t i o.2 run.1 (stmt_at h t i) (stmt_same (numbered (submits t h) i) _) x)
+      (told_run its t i o.2 run.1 (stmt_at h t i) (stmt_same (numbered (submits t h) i) _) x)
   told_now (reply.Ended x) fits =
       let o = ended_out x (out_at r h) fits in
       elim o.1 [
-        | inl commit ↦ subst (λ p. AtReplica (λ u. submits u h) (log h) None (next_journal (call_of p (reply.Ended x) (stmt_at h)) J)) (sym commit) (told_commit (λ u. submits u h) (log h) (out_at r h) J its o.0 commit x)
-        | inr rollback ↦ subst (λ p. AtReplica (λ u. submits u h) (log h) None (next_journal (call_of p (reply.Ended x) (stmt_at h)) J)) (sym rollback) (told_rollback (λ u. submits u h) (log h) (out_at r h) J its o.0 x)
+        | inl commit ↦ subst (λ p. AtReplica (λ u. submits u h) (log h) None (next_journal (call_of p (reply.Ended x) (stmt_at h)) J)) (sym commit) (told_commit its o.0 commit x)
+        | inr rollback ↦ subst (λ p. AtReplica (λ u. submits u h) (log h) None (next_journal (call_of p (reply.Ended x) (stmt_at h)) J)) (sym rollback) (told_rollback its o.0 x)
       ]
   told_now reply.StillLost fits =
       subst (λ p. AtReplica (λ u. submits u h) (log h) None (next_journal (call_of p reply.StillLost (stmt_at h)) J)) (sym (still_out (out_at r h) fits))
-      (still_lost (λ u. submits u h) (log h) (out_at r h) J its record {})
+      (still_lost its record {})
 
   pub part_at_give : (c q : ℕ) (told : JobReply) → fits_job told (out_at q h) ≡ true → AtReplicaAt r (record { caller = c; event = event.Give q told } ∷ h)
   part_at_give c q told fits = by_test (q == r) refl
@@ -134,5 +134,5 @@ module _ (h : History) (k : Kept h) (r : ℕ) where
       by_test : (b : Bool) → (q == r) ≡ b → AtReplica (λ t. submits t h) (log h) (if b then None else out_at r h) (next_journal (restart_if b r n (λ p. out_at p h)) J)
       by_test true e =
           subst (λ o. AtReplica (λ u. submits u h) (log h) None (next_journal (restart_of o n) J)) (sym (subst (λ p. out_at p h ≡ Some job.Restart) (eqb-true q r e) out))
-          (is_restarted (λ u. submits u h) (log h) (out_at r h) J its n)
+          (is_restarted its n)
       by_test false e = its

@@ -28,7 +28,7 @@ statements_many steps = length-map steps (λ (s : RanStmt). s.stmt)
 nothing_begins : (stmts : List Stmt) → Begins (statements []) stmts
 nothing_begins stmts = (stmts, refl)
 
-module _ (submitted : ℕ → List Stmt) (decided : List ℕ) (out : Option Job) (j : Journal) (g : AtReplica submitted decided out j) where
+module _ {submitted : ℕ → List Stmt} {decided : List ℕ} {out : Option Job} {j : Journal} (g : AtReplica submitted decided out j) where
   -- statements are submitted of transactions that aren't in the log
   pub grown : (submitted_now : ℕ → List Stmt) → ((t : ℕ) → Begins (submitted t) (submitted_now t)) → ((i t : ℕ) → slice_get decided i ≡ Some t → submitted t ≡ submitted_now t) → AtReplica submitted_now decided out j
   grown submitted_now more same =

@@ -1,5 +1,6 @@
 //! The rules read backwards, from an entry that stands to why it does; and what every history keeps.
 ghost use Rattle.std.specs.Prelude.{◌≡◌, ℕ, ◌+◌, true, false, Some, None, ◌∷◌, length};
+ghost use Rattle.hr_rel.specs.declared.stmt.Stmt.{Stmt};
 ghost use Rattle.hr_history.specs.declared.entry.Entry.{Entry};
 ghost use Rattle.hr_history.specs.declared.entry.Event.TheVariants.{Begin, Submit};
 ghost use Rattle.hr_history.specs.declared.job.Job.{Job};
@@ -35,7 +36,7 @@ pub fn job_by_rule()
 /// Transactions and statements have the next number: the k-th Begin has number k, and a transaction's i-th Submit index i.
 pub fn next_numbers()
     ensures begins { (f sessions caller session txn : ℕ) (before : History) → Begun f sessions (record { caller = caller; event = Begin session txn } ∷ before) → txn ≡ length (begun before) + 1 }
-    ensures submits { (f sessions caller txn index : ℕ) (stmt : _) (before : History) → Begun f sessions (record { caller = caller; event = Submit txn index stmt } ∷ before) → index ≡ length (submits txn before) + 1 }
+    ensures submits { (f sessions caller txn index : ℕ) (stmt : Stmt) (before : History) → Begun f sessions (record { caller = caller; event = Submit txn index stmt } ∷ before) → index ≡ length (submits txn before) + 1 }
 {}
 
 /// In every history that has begun rightly numbers and phases fit: a session has one open transaction at most, the log has
