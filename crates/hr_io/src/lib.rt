@@ -1,7 +1,7 @@
 //! The outside of HRDB: where bytes come from, where they go, and who is told of a backend's calls.
 //!
-//! A [`Source`] or a [`Sink`] may fail at any call. It counts its failures, and an error comes only
-//! where that count rose, so that what a program says of a fault is proved and not made up.
+//! A [`Source`] or a [`Sink`] may fail at any call. It counts its failures: an error comes only where that count rose, and a
+//! call that answers Ok leaves it as it was. So what a program says of a fault is proved and not made up, and none is kept back.
 //! What a source has left and what a sink has taken is known where the type tells it.
 #![tactic(auto)]
 
