@@ -1,5 +1,5 @@
 -- What is told of a text is what the grammar says of its words and of its tokens' error.
-use Rattle.std.proofs.Common.{◌≡◌, ◌≤◌, ◌⊎◌, ◌↔◌, inl, inr, ℕ, ◌+◌, nat_lt, Bool, true, false, List, [], ◌∷◌, length, map, Option, Some, None, Result, Ok, Err, IfOk, IfErr, refl, sym, ◌∙◌, ap, subst, arith}
+use Rattle.std.proofs.Common.{◌≡◌, ◌≤◌, ◌⊎◌, inl, inr, ℕ, ◌+◌, nat_lt, Bool, true, false, List, [], ◌∷◌, length, map, Option, Some, None, Result, Ok, Err, IfOk, IfErr, refl, sym, ◌∙◌, ap, subst, arith}
 use Rattle.std.proofs.lemmas.Bool.Decides.{nat_tests}
 use Rattle.hr_lex.specs.declared.token.LexError.{LexError}
 use Rattle.hr_lex.specs.Tokens.{read_of}
@@ -10,7 +10,7 @@ use Rattle.hr_parse.specs.declared.parsing.ParseError.TheVariants as e
 use Rattle.hr_parse.specs.declared.word.Lexeme.{Lexeme}
 use Rattle.hr_parse.specs.Readers.{Outcome, Reader, Reads, alone}
 use Rattle.hr_parse.specs.Parse.{Begins, Refused, error, depth_for, moved, told, settled}
-use Rattle.hr_parse.proofs.Rules.{Rule, ok_parts}
+use Rattle.hr_parse.proofs.Rules.{Rule}
 use Rattle.hr_parse.proofs.Operands.{Fits}
 use Rattle.hr_parse.proofs.Whole.{Cause, begins_all, read_is, is_read, refused}
 

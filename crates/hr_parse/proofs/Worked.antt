@@ -1,12 +1,11 @@
 -- Worked statements and tuples.
-use Rattle.std.proofs.Common.{◌≡◌, [], ◌∷◌, codes, None, refl}
+use Rattle.std.proofs.Common.{[], ◌∷◌, codes, None, refl}
 use Rattle.hr_lex.specs.Keywords.{keyword}
 use Rattle.hr_lex.specs.Tokens.{token_at}
 use Rattle.hr_lex.specs.declared.token.LexError.TheVariants as l
 use Rattle.hr_parse.specs.declared.ast.Ast.{Ast}
 use Rattle.hr_parse.specs.declared.ast.Ast.TheVariants as ast
 use Rattle.hr_parse.specs.declared.ast.LitAst.TheVariants as lit
-use Rattle.hr_parse.specs.declared.ast.TupleAst.{TupleAst}
 use Rattle.hr_parse.specs.declared.parsing.ParseError.TheVariants as e
 use Rattle.hr_parse.specs.Grammar.{Optional, IsName, IsDelete, IsCommand, IsStatement}
 use Rattle.hr_parse.specs.Words.{same_mark}

@@ -1,6 +1,5 @@
 -- Worked texts.
-use Rattle.std.proofs.Common.{◌≡◌, ℕ, List, [], ◌∷◌, codes, Some, None, false, refl, ap, get_or, arith}
-use Rattle.hr_rel.specs.declared.expr.Op.TheVariants as op
+use Rattle.std.proofs.Common.{◌≡◌, ℕ, List, codes, None, false, refl, ap, get_or, arith}
 use Rattle.hr_lex.specs.Keywords.{keyword}
 use Rattle.hr_lex.specs.Tokens.{token_at}
 use Rattle.hr_parse.specs.declared.ast.Ast.{Ast}
@@ -9,7 +8,6 @@ use Rattle.hr_parse.specs.declared.ast.CondAst.{CondAst}
 use Rattle.hr_parse.specs.declared.ast.CondAst.TheVariants as cond_of
 use Rattle.hr_parse.specs.declared.ast.OperandAst.{OperandAst}
 use Rattle.hr_parse.specs.declared.ast.OperandAst.TheVariants as operand_of
-use Rattle.hr_parse.specs.declared.ast.LitAst.TheVariants as lit
 use Rattle.hr_parse.specs.Words.{same_mark}
 use Rattle.hr_print.specs.Print.{text, cond_text}
 use Rattle.hr_print.specs.Canonical.{Alike, parentheses}
