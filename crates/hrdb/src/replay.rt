@@ -5,10 +5,10 @@ ghost use Rattle.hr_meaning.specs.Serial.{database_after, serial_answers};
 ghost use Rattle.hr_one_session.specs.Replicas.{Hold};
 ghost use Rattle.hrdb.specs.Replay.{IsReady, start, report_of, dumps_of, first_script, statements_of};
 
+use hr_one_session::{OneSession, Plain};
 use hr_rel::{Answer, Rows, Seq, Stmt, TryCopy};
 use hr_report::report_text;
 use hr_scenario::{Block, Scenario};
-use hr_one_session::{Plain, OneSession};
 use std::alloc::{AllocError, Global};
 
 /// The report of a scenario's run.
