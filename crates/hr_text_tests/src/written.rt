@@ -21,7 +21,7 @@ fn push_name(out: &mut String, name: &NameAt) -> Result<(), AllocError> {
 
 fn push_names(out: &mut String, names: &[NameAt]) -> Result<(), AllocError> {
     for name in names {
-        write!(out, " ")?;
+        out.push_str(" ")?;
         push_name(out, name)?;
     }
     Ok(())
@@ -30,7 +30,7 @@ fn push_names(out: &mut String, names: &[NameAt]) -> Result<(), AllocError> {
 fn push_column(out: &mut String, column: &ColumnAst) -> Result<(), AllocError> {
     push_name(out, &column.first)?;
     if let Some(second) = &column.second {
-        write!(out, ".")?;
+        out.push_str(".")?;
         push_name(out, second)?;
     }
     Ok(())
@@ -38,12 +38,12 @@ fn push_column(out: &mut String, column: &ColumnAst) -> Result<(), AllocError> {
 
 fn push_literal(out: &mut String, literal: &LiteralAst) -> Result<(), AllocError> {
     match &literal.value {
-        LitAst::Null => write!(out, "NULL")?,
+        LitAst::Null => out.push_str("NULL")?,
         LitAst::Int(n) => write!(out, "{n}")?,
         LitAst::Text(text) => {
-            write!(out, "'")?;
+            out.push_str("'")?;
             push_bytes(out, text.as_slice())?;
-            write!(out, "'")?;
+            out.push_str("'")?;
         }
     }
     write!(out, "@{}", literal.at)
@@ -51,7 +51,7 @@ fn push_literal(out: &mut String, literal: &LiteralAst) -> Result<(), AllocError
 
 fn push_literals(out: &mut String, literals: &[LiteralAst]) -> Result<(), AllocError> {
     for literal in literals {
-        write!(out, " ")?;
+        out.push_str(" ")?;
         push_literal(out, literal)?;
     }
     Ok(())
@@ -66,29 +66,36 @@ fn push_operand(out: &mut String, operand: &OperandAst) -> Result<(), AllocError
 
 fn push_expr(out: &mut String, expr: &ExprAst) -> Result<(), AllocError> {
     write!(out, "[{} ", expr.at)?;
-    match &expr.kind {
-        ExprKind::Literal(literal) => push_literal(out, literal.get())?,
-        ExprKind::Column(column) => push_column(out, column.get())?,
+    let (left, right) = match &expr.kind {
+        ExprKind::Literal(literal) => return push_leaf_literal(out, literal.get()),
+        ExprKind::Column(column) => return push_leaf_column(out, column.get()),
         ExprKind::Add(left, right) => {
-            write!(out, "+ ")?;
-            push_expr(out, left.get())?;
-            write!(out, " ")?;
-            push_expr(out, right.get())?;
+            out.push_str("+ ")?;
+            (left, right)
         }
         ExprKind::Sub(left, right) => {
-            write!(out, "- ")?;
-            push_expr(out, left.get())?;
-            write!(out, " ")?;
-            push_expr(out, right.get())?;
+            out.push_str("- ")?;
+            (left, right)
         }
         ExprKind::Mul(left, right) => {
-            write!(out, "* ")?;
-            push_expr(out, left.get())?;
-            write!(out, " ")?;
-            push_expr(out, right.get())?;
+            out.push_str("* ")?;
+            (left, right)
         }
-    }
-    write!(out, "]")
+    };
+    push_expr(out, left.get())?;
+    out.push_str(" ")?;
+    push_expr(out, right.get())?;
+    out.push_str("]")
+}
+
+fn push_leaf_literal(out: &mut String, literal: &LiteralAst) -> Result<(), AllocError> {
+    push_literal(out, literal)?;
+    out.push_str("]")
+}
+
+fn push_leaf_column(out: &mut String, column: &ColumnAst) -> Result<(), AllocError> {
+    push_column(out, column)?;
+    out.push_str("]")
 }
 
 fn op_text(op: Op) -> &'static str {
@@ -103,71 +110,96 @@ fn op_text(op: Op) -> &'static str {
 }
 
 fn push_not(out: &mut String, negated: bool) -> Result<(), AllocError> {
-    if negated { write!(out, "NOT ") } else { Ok(()) }
+    if negated {
+        out.push_str("NOT ")
+    } else {
+        Ok(())
+    }
 }
 
 fn push_two(out: &mut String, left: &OperandAst, right: &OperandAst) -> Result<(), AllocError> {
     push_operand(out, left)?;
-    write!(out, " ")?;
+    out.push_str(" ")?;
     push_operand(out, right)
 }
 
-fn push_among(out: &mut String, of: &OperandAst, list: &[LiteralAst]) -> Result<(), AllocError> {
-    write!(out, "IN ")?;
+fn push_among(
+    out: &mut String,
+    of: &OperandAst,
+    list: &[LiteralAst],
+    negated: bool,
+) -> Result<(), AllocError> {
+    push_not(out, negated)?;
+    out.push_str("IN ")?;
     push_operand(out, of)?;
     push_literals(out, list)
 }
 
+fn push_compare(
+    out: &mut String,
+    op: Op,
+    left: &OperandAst,
+    right: &OperandAst,
+) -> Result<(), AllocError> {
+    out.push_str(op_text(op))?;
+    out.push_str(" ")?;
+    push_two(out, left, right)
+}
+
+fn push_null(out: &mut String, of: &OperandAst, negated: bool) -> Result<(), AllocError> {
+    push_not(out, negated)?;
+    out.push_str("NULL ")?;
+    push_operand(out, of)
+}
+
+fn push_between(
+    out: &mut String,
+    of: &OperandAst,
+    low: &OperandAst,
+    high: &OperandAst,
+    negated: bool,
+) -> Result<(), AllocError> {
+    push_not(out, negated)?;
+    out.push_str("BETWEEN ")?;
+    push_operand(out, of)?;
+    out.push_str(" ")?;
+    push_two(out, low, high)
+}
+
 fn push_cond(out: &mut String, cond: &CondAst) -> Result<(), AllocError> {
-    write!(out, "(")?;
+    out.push_str("(")?;
     match cond {
         CondAst::Or(left, right) => {
-            write!(out, "OR ")?;
+            out.push_str("OR ")?;
             push_cond(out, left.get())?;
-            write!(out, " ")?;
+            out.push_str(" ")?;
             push_cond(out, right.get())?;
         }
         CondAst::And(left, right) => {
-            write!(out, "AND ")?;
+            out.push_str("AND ")?;
             push_cond(out, left.get())?;
-            write!(out, " ")?;
+            out.push_str(" ")?;
             push_cond(out, right.get())?;
         }
         CondAst::Not(inner) => {
-            write!(out, "NOT ")?;
+            out.push_str("NOT ")?;
             push_cond(out, inner.get())?;
         }
-        CondAst::Compare(op, left, right) => {
-            write!(out, "{} ", op_text(*op))?;
-            push_two(out, left.get(), right.get())?;
-        }
-        CondAst::IsNull { operand, negated } => {
-            push_not(out, *negated)?;
-            write!(out, "NULL ")?;
-            push_operand(out, operand.get())?;
-        }
+        CondAst::Compare(op, left, right) => push_compare(out, *op, left.get(), right.get())?,
+        CondAst::IsNull { operand, negated } => push_null(out, operand.get(), *negated)?,
         CondAst::Between {
             operand,
             low,
             high,
             negated,
-        } => {
-            push_not(out, *negated)?;
-            write!(out, "BETWEEN ")?;
-            push_operand(out, operand.get())?;
-            write!(out, " ")?;
-            push_two(out, low.get(), high.get())?;
-        }
+        } => push_between(out, operand.get(), low.get(), high.get(), *negated)?,
         CondAst::Among {
             operand,
             list,
             negated,
-        } => {
-            push_not(out, *negated)?;
-            push_among(out, operand.get(), list.as_slice())?;
-        }
+        } => push_among(out, operand.get(), list.as_slice(), *negated)?,
     }
-    write!(out, ")")
+    out.push_str(")")
 }
 
 fn word_text(word: AggWord) -> &'static str {
@@ -184,7 +216,8 @@ fn push_item(out: &mut String, item: &ItemAst) -> Result<(), AllocError> {
         ItemAst::Plain(expr) => push_expr(out, expr),
         ItemAst::CountAll(at) => write!(out, "COUNT(*)@{at}"),
         ItemAst::Aggregate { word, column, at } => {
-            write!(out, "{}(", word_text(*word))?;
+            out.push_str(word_text(*word))?;
+            out.push_str("(")?;
             push_column(out, column)?;
             write!(out, ")@{at}")
         }
@@ -196,7 +229,7 @@ fn push_items(out: &mut String, items: &Items) -> Result<(), AllocError> {
         Items::Star(at) => write!(out, " *@{at}"),
         Items::Listed(all) => {
             for item in all.as_slice() {
-                write!(out, " ")?;
+                out.push_str(" ")?;
                 push_item(out, item)?;
             }
             Ok(())
@@ -207,7 +240,7 @@ fn push_items(out: &mut String, items: &Items) -> Result<(), AllocError> {
 fn push_entry(out: &mut String, entry: &EntryAst) -> Result<(), AllocError> {
     push_name(out, &entry.table)?;
     if let Some(alias) = &entry.alias {
-        write!(out, " AS ")?;
+        out.push_str(" AS ")?;
         push_name(out, alias)?;
     }
     Ok(())
@@ -215,9 +248,9 @@ fn push_entry(out: &mut String, entry: &EntryAst) -> Result<(), AllocError> {
 
 fn push_join(out: &mut String, join: &Option<JoinAst>) -> Result<(), AllocError> {
     if let Some(join) = join {
-        write!(out, " JOIN ")?;
+        out.push_str(" JOIN ")?;
         push_entry(out, &join.entry)?;
-        write!(out, " ON ")?;
+        out.push_str(" ON ")?;
         push_cond(out, &join.on)?;
     }
     Ok(())
@@ -225,7 +258,7 @@ fn push_join(out: &mut String, join: &Option<JoinAst>) -> Result<(), AllocError>
 
 fn push_filter(out: &mut String, filter: &Option<CondAst>) -> Result<(), AllocError> {
     if let Some(cond) = filter {
-        write!(out, " WHERE ")?;
+        out.push_str(" WHERE ")?;
         push_cond(out, cond)?;
     }
     Ok(())
@@ -233,16 +266,16 @@ fn push_filter(out: &mut String, filter: &Option<CondAst>) -> Result<(), AllocEr
 
 fn push_groups(out: &mut String, groups: &[ColumnAst]) -> Result<(), AllocError> {
     for column in groups {
-        write!(out, " BY ")?;
+        out.push_str(" BY ")?;
         push_column(out, column)?;
     }
     Ok(())
 }
 
 fn push_select(out: &mut String, select: &SelectAst) -> Result<(), AllocError> {
-    write!(out, "SELECT")?;
+    out.push_str("SELECT")?;
     push_items(out, &select.items)?;
-    write!(out, " FROM ")?;
+    out.push_str(" FROM ")?;
     push_entry(out, &select.first)?;
     push_join(out, &select.join)?;
     push_filter(out, &select.filter)?;
@@ -258,33 +291,33 @@ pub fn push_tuples(out: &mut String, tuples: &[TupleAst]) -> Result<(), AllocErr
 }
 
 fn push_insert(out: &mut String, insert: &InsertAst) -> Result<(), AllocError> {
-    write!(out, "INSERT ")?;
+    out.push_str("INSERT ")?;
     push_name(out, &insert.table)?;
-    write!(out, " (")?;
+    out.push_str(" (")?;
     push_names(out, insert.columns.as_slice())?;
-    write!(out, ")")?;
+    out.push_str(")")?;
     push_tuples(out, insert.tuples.as_slice())
 }
 
 fn push_sets(out: &mut String, sets: &[SetAst]) -> Result<(), AllocError> {
     for set in sets {
-        write!(out, " ")?;
+        out.push_str(" ")?;
         push_name(out, &set.column)?;
-        write!(out, "=")?;
+        out.push_str("=")?;
         push_expr(out, &set.value)?;
     }
     Ok(())
 }
 
 fn push_update(out: &mut String, update: &UpdateAst) -> Result<(), AllocError> {
-    write!(out, "UPDATE ")?;
+    out.push_str("UPDATE ")?;
     push_name(out, &update.table)?;
     push_sets(out, update.sets.as_slice())?;
     push_filter(out, &update.filter)
 }
 
 fn push_delete(out: &mut String, delete: &DeleteAst) -> Result<(), AllocError> {
-    write!(out, "DELETE ")?;
+    out.push_str("DELETE ")?;
     push_name(out, &delete.table)?;
     push_filter(out, &delete.filter)
 }
