@@ -11,7 +11,7 @@ use Rattle.hr_lex.specs.declared.token.Keyword.TheVariants as kw
 use Rattle.hr_parse.specs.declared.word.Sign.TheVariants as sign_of
 use Rattle.hr_parse.specs.declared.word.Lexeme.{Lexeme}
 use Rattle.hr_parse.specs.Words.{mark, same_mark}
-use Rattle.hr_parse.specs.Readers.{sees, sees_compare, between, among, nullity, range_or_list_of, range_or_list, check, test, neg, conj, conj_behind, cond, cond_behind}
+use Rattle.hr_parse.specs.Readers.{sees, sees_compare, between, among, nullity, range_or_list_of, range_or_list, check, predicate, neg, conj, conj_behind, cond, cond_behind}
 use Rattle.hr_parse.specs.Grammar.{Listed, IsName, IsColumn, IsLiteral, IsOperand, IsCheck, IsNeg, IsConj, AndMore, IsCond, OrMore}
 use Rattle.hr_parse.proofs.Rules.{Stops, Rule, Seq, Map, Done, IsMark, Ahead, Only, Compared, rule_iso, rule_seq, rule_map, rule_pure, rule_expect, rule_weak, rule_ahead, rule_only, rule_at_compare, never, never_stops}
 use Rattle.hr_parse.proofs.Stops.{any, stops_here, stops_rest, firm_mark, firm_seq, firm_map}
@@ -138,8 +138,8 @@ check_firm o u a t (IsCheck.not_among p q r s l) = refl
 check_firm o u a t (IsCheck.between q r l k) = refl
 check_firm o u a t (IsCheck.among q r s l) = refl
 
-rule_the_test : (n : ℕ) → Rule (test n) (Seq IsOperand IsCheck) dots (Fits 3 n)
-unfolding test
+rule_the_test : (n : ℕ) → Rule (predicate n) (Seq IsOperand IsCheck) dots (Fits 3 n)
+unfolding predicate
 rule_the_test n = rule_seq (Fits 3 n) (rule_operand n) (λ o. rule_check n o) (λ i j h. (omega (arith, h), omega (arith, h))) (λ o v b t l st. check_firm o v b t l)
 
 -- ---- conditions

@@ -271,8 +271,8 @@ range_or_list n operand = ahead (m.Keyword kw.Not) (range_or_list_of n operand t
 unfoldable pub check : ℕ → OperandAst → Reader CondAst
 check n operand = at_compare (λ o. do right ← operand_at; pure (c.Compare o operand right)) (ahead (m.Keyword kw.Is) (nullity operand) (range_or_list n operand))
 
-unfoldable pub test : ℕ → Reader CondAst
-test n = do
+unfoldable pub predicate : ℕ → Reader CondAst
+predicate n = do
   operand ← operand_at
   check n operand
 
@@ -282,7 +282,7 @@ unfoldable mutual
   neg (suc n) =
       ahead (m.Keyword kw.Not) (do inner ← neg n; pure (c.Not inner))
       (ahead (m.Sign sign_of.LeftParen) (do inner ← cond n; expect (m.Sign sign_of.RightParen); pure inner)
-      (test n))
+      (predicate n))
 
   pub conj : ℕ → Reader CondAst
   conj zero = refuse

@@ -94,9 +94,9 @@ impl<'a> Parser<'a> {
     }
 
     /// `operand check`
-    #[tactic(auto, unfolding(crate::specs::Readers::test))]
-    fn test(&mut self, depth: usize) -> Result<Boxed<CondAst>, Stop>
-        ensures { Reads (spec.test depth self.old.rest.now) result self.new.rest.now }
+    #[tactic(auto, unfolding(crate::specs::Readers::predicate))]
+    fn predicate(&mut self, depth: usize) -> Result<Boxed<CondAst>, Stop>
+        ensures { Reads (spec.predicate depth self.old.rest.now) result self.new.rest.now }
     {
         let operand = self.boxed_operand()?;
         self.check(depth, operand)
@@ -117,7 +117,7 @@ impl<'a> Parser<'a> {
             self.expect(Mark::Sign(Sign::RightParen))?;
             Ok(inner)
         } else {
-            self.test(depth)
+            self.predicate(depth)
         }
     }
 
