@@ -1,0 +1,6 @@
+//! Why transactions are refused.
+//!
+//! Each law is the contract of a function that does nothing. None has a premise on how many replicas lie.
+#![tactic(auto)]
+
+pub mod laws;
