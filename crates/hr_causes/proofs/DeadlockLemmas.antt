@@ -1,23 +1,21 @@
 -- The primary's Deadlock is no evidence: it is one that a correct replica may tell.
-use Rattle.std.proofs.Common.{◌≡◌, inl, inr, ℕ, ◌+◌, ◌*◌, ◌<◌, Bool, true, false, not, ◌&&◌, ◌==◌, if◌then◌else◌, Option, Some, None, List, [], ◌∷◌, ◌++◌, length, map, option_and_then, refl, ap, sym, ◌∙◌, arith}
+use Rattle.std.proofs.Common.{◌≡◌, inl, inr, ℕ, ◌+◌, ◌*◌, ◌<◌, Bool, true, false, not, ◌&&◌, ◌==◌, Option, Some, None, List, [], ◌∷◌, ◌++◌, length, map, option_and_then, refl, ap, sym, ◌∙◌, arith}
 use Rattle.std.specs.List.{list_all}
 use Rattle.std.proofs.lemmas.Bool.{and_parts, or_cases, eqb-true, eq-eqb, ne_eqb}
 use Rattle.hr_base.specs.Lists.{has, is_empty, is_distinct, last_of, first_some, when}
 use Rattle.hr_base.proofs.ListLaws.{all_agree_on}
 use Rattle.hr_base.proofs.Tests.{or_false}
-use Rattle.hr_engine.specs.Journal.{Call, Ran, Journal}
+use Rattle.hr_engine.specs.Journal.{Ran}
 use Rattle.hr_engine.specs.Attempts.{RanStmt, attempt, answers, is_running}
 use Rattle.hr_engine.specs.Waits.{wait, is_chain, is_sound_deadlock}
 use Rattle.hr_engine.specs.declared.reply.RunReply.{RunReply}
 use Rattle.hr_engine.specs.declared.reply.RunReply.TheVariants as run
 use Rattle.hr_engine.proofs.WaitLaws.{wait-deadlock_other}
-use Rattle.hr_history.specs.declared.entry.Entry.{Entry}
 use Rattle.hr_history.specs.declared.entry.Event.{Event}
 use Rattle.hr_history.specs.declared.entry.Event.TheVariants as event
 use Rattle.hr_history.specs.declared.evidence.Evidence.{Evidence}
 use Rattle.hr_history.specs.declared.evidence.Evidence.TheVariants as evidence
 use Rattle.hr_history.specs.declared.cause.CauseAt.{CauseAt}
-use Rattle.hr_history.specs.declared.job.Job.{Job}
 use Rattle.hr_history.specs.declared.job.Job.TheVariants as job
 use Rattle.hr_history.specs.declared.job.JobReply.TheVariants as reply
 use Rattle.hr_history.specs.declared.phase.Fresh.{Fresh}
@@ -32,7 +30,7 @@ use Rattle.hr_history.specs.Evidence.{evidence_of, differs, bad_waits, bad_reply
 use Rattle.hr_history.specs.Rules.{convict_with, owed_conviction, conviction_of, convict, due_in}
 use Rattle.hr_history.proofs.WaitLaws.{wait_of_last}
 use Rattle.hr_history.proofs.AttemptSteps.{attempt_lookup}
-use Rattle.hr_records.proofs.Options.{On, on_some, then_on, first_of_on, when_on, first_none, some_none, same_some, in_range}
+use Rattle.hr_records.proofs.Options.{On, on_some, then_on, first_of_on, when_on, first_none, some_none, in_range}
 use Rattle.hr_records.proofs.NumberSteps.{not_both}
 
 -- WHAT IS DUE IS A REFUSAL, SO NOBODY IS TO BE CONVICTED

@@ -1,12 +1,11 @@
 -- A refusal for the votes: the answers differ first where the cause says, and its place is that of the other answer's Give.
-use Rattle.std.proofs.Common.{◌≡◌, ℕ, zero, suc, ◌+◌, ◌*◌, ◌<◌, ◌≤◌, Bool, true, false, not, ◌&&◌, ◌==◌, nat_le, if◌then◌else◌, Option, Some, None, is_some, is_none, unwrap_or, option_map, option_and_then, List, [], ◌∷◌, ◌++◌, length, filter, map, count_by, find, refl, ap, sym, ◌∙◌, subst, arith, IsTrue}
+use Rattle.std.proofs.Common.{◌≡◌, ℕ, zero, suc, ◌+◌, ◌*◌, ◌<◌, ◌≤◌, Bool, true, false, not, ◌&&◌, ◌==◌, nat_le, if◌then◌else◌, Option, Some, None, is_some, is_none, unwrap_or, option_and_then, List, [], ◌∷◌, length, count_by, find, refl, ap, sym, ◌∙◌, subst, arith, IsTrue}
 use Rattle.std.proofs.lemmas.Bool.{and_parts, eqb-true}
 use Rattle.std.proofs.lemmas.List.{length-map}
-use Rattle.hr_base.specs.Lists.{has, last_of, first_some, when, numbered}
+use Rattle.hr_base.specs.Lists.{has, last_of, when, numbered}
 use Rattle.hr_rel.specs.declared.answer.Answer.{Answer}
 use Rattle.hr_engine.specs.declared.reply.RunReply.{RunReply}
 use Rattle.hr_engine.specs.declared.reply.RunReply.TheVariants as run
-use Rattle.hr_engine.specs.Attempts.{attempt, answers}
 use Rattle.hr_history.specs.declared.cause.CauseAt.{CauseAt}
 use Rattle.hr_history.specs.declared.cause.CauseAt.TheVariants as cause
 use Rattle.hr_history.specs.declared.entry.Entry.{Entry}
@@ -36,7 +35,7 @@ use Rattle.hr_history.proofs.SameAnswersLemmas.{same_answer_decides}
 use Rattle.hr_history.proofs.AttemptSteps.{attempt_lookup}
 use Rattle.hr_records.specs.Numbers.{IsBorn, IsBalanced}
 use Rattle.hr_records.specs.Kept.{Kept}
-use Rattle.hr_records.proofs.Options.{On, on_some, when_on, first_on, then_on, map_on, first_of_on, find_has, has_range, some_none, same_some}
+use Rattle.hr_records.proofs.Options.{On, on_some, when_on, first_on, then_on, map_on, first_of_on, find_has, has_range, same_some}
 use Rattle.hr_records.proofs.Places.{numbered_born, numbered_some}
 use Rattle.hr_records.proofs.NumberSteps.{not_both}
 use Rattle.hr_records.proofs.RuleLemmas.{begun_before, by_rule, was_due}

@@ -1,9 +1,9 @@
 -- Each answer of an attempt was told by the Give at its place.
-use Rattle.std.proofs.Common.{◌≡◌, ◌⊎◌, inl, inr, ℕ, zero, suc, ◌+◌, ◌<◌, ◌≤◌, Bool, true, false, cond, ◌==◌, Option, Some, None, List, [], ◌∷◌, ◌++◌, length, refl, ap, sym, ◌∙◌, subst, arith, length-append}
+use Rattle.std.proofs.Common.{◌≡◌, ◌⊎◌, inl, inr, ℕ, zero, suc, ◌+◌, Bool, true, false, cond, ◌==◌, Option, Some, None, List, [], ◌∷◌, ◌++◌, length, refl, ap, sym, subst, arith, length-append}
 use Rattle.std.proofs.lemmas.Bool.{eqb-true}
 use Rattle.hr_base.specs.Lists.{numbered}
 use Rattle.hr_rel.specs.declared.answer.Answer.{Answer}
-use Rattle.hr_engine.specs.Journal.{Call, Ran, Committed, RolledBack, Restarted, Journal}
+use Rattle.hr_engine.specs.Journal.{Call, Ran, Committed, RolledBack}
 use Rattle.hr_engine.specs.Attempts.{RanStmt, attempt, answers}
 use Rattle.hr_engine.specs.declared.reply.RunReply.{RunReply}
 use Rattle.hr_engine.specs.declared.reply.RunReply.TheVariants as run
@@ -19,7 +19,7 @@ use Rattle.hr_history.specs.declared.job.JobReply.TheVariants as reply
 use Rattle.hr_history.specs.History.{History}
 use Rattle.hr_history.specs.Replicas.{out_at, journal_of, stmt_at, call_of, call_if, restart_of, restart_if, next_journal}
 use Rattle.hr_history.specs.Attempts.{places_told, next_places}
-use Rattle.hr_records.proofs.Options.{some_none, same_some}
+use Rattle.hr_records.proofs.Options.{some_none}
 use Rattle.hr_records.proofs.Places.{numbered_front, numbered_more, numbered_end}
 use Rattle.hr_causes.specs.Places.{StandsAt}
 

@@ -1,31 +1,26 @@
 -- Who is the primary within a turn, and that it isn't convicted.
-use Rattle.std.proofs.Common.{◌≡◌, ◌⊎◌, inl, inr, ℕ, ◌+◌, ◌*◌, ◌<◌, ◌≤◌, Bool, true, false, not, ◌&&◌, ◌||◌, ◌==◌, if◌then◌else◌, Option, Some, None, is_some, List, [], ◌∷◌, ◌++◌, length, refl, ap, sym, ◌∙◌, arith}
-use Rattle.std.proofs.lemmas.Bool.{and_parts, eqb-true, eq-eqb}
+use Rattle.std.proofs.Common.{◌≡◌, ◌⊎◌, inl, inr, ℕ, ◌+◌, Bool, true, false, not, ◌||◌, ◌==◌, if◌then◌else◌, Option, Some, None, is_some, List, [], ◌∷◌, ◌++◌, length, refl, ap, sym, ◌∙◌, arith}
+use Rattle.std.proofs.lemmas.Bool.{and_parts}
 use Rattle.hr_engine.specs.Attempts.{attempt}
-use Rattle.hr_engine.specs.declared.reply.RunReply.{RunReply}
 use Rattle.hr_history.specs.declared.cause.Why.TheVariants as why
 use Rattle.hr_history.specs.declared.entry.Entry.{Entry}
 use Rattle.hr_history.specs.declared.entry.Event.{Event}
 use Rattle.hr_history.specs.declared.entry.Event.TheVariants as event
 use Rattle.hr_history.specs.declared.job.Job.TheVariants as job
-use Rattle.hr_history.specs.declared.job.JobReply.{JobReply}
-use Rattle.hr_history.specs.declared.job.JobReply.TheVariants as reply
 use Rattle.hr_history.specs.History.{History, is_call}
 use Rattle.hr_history.specs.Transactions.{begun, phase_of, is_open}
-use Rattle.hr_history.specs.Replicas.{out_at, journal_of, is_lost, is_convicted, tells_loss}
+use Rattle.hr_history.specs.Replicas.{out_at, journal_of, is_convicted, tells_loss}
 use Rattle.hr_history.specs.Primary.{primary_of, is_some_of, other_than}
 use Rattle.hr_history.specs.Given.{given_to}
-use Rattle.hr_history.specs.Rules.{primary_gone}
 use Rattle.hr_history.specs.Turn.{turn_of, went, Gone}
 use Rattle.hr_history.specs.View.{view_of, Progress}
-use Rattle.hr_history.specs.Processed.{replica_in, live_in}
+use Rattle.hr_history.specs.Processed.{replica_in}
 use Rattle.hr_history.specs.Faithful.{Begun}
 use Rattle.hr_history.proofs.StepLemmas.{replica_lookup}
 use Rattle.hr_records.specs.ByRule.{IsElected}
 use Rattle.hr_records.specs.Numbers.{IsBorn}
 use Rattle.hr_records.specs.Kept.{Kept}
 use Rattle.hr_records.proofs.Options.{some_none, same_some}
-use Rattle.hr_records.proofs.NumberSteps.{not_both}
 use Rattle.hr_records.proofs.RuleLemmas.{begun_before, by_rule, nothing_due}
 use Rattle.hr_records.proofs.KeptLemmas.{kept}
 use Rattle.hr_records.proofs.LeadLemmas.{none_for_gone, refused_all}

@@ -1,19 +1,17 @@
 -- After a turn, who has a cause to be refused is refused.
-use Rattle.std.proofs.Common.{◌≡◌, ℕ, ◌+◌, Bool, true, false, ◌&&◌, Option, Some, None, is_some, List, [], ◌∷◌, length, option_and_then, refl, ap, sym, ◌∙◌, IsTrue}
-use Rattle.hr_base.specs.Lists.{last_of, when}
+use Rattle.std.proofs.Common.{◌≡◌, ℕ, Bool, true, false, ◌&&◌, Some, None, is_some, length, option_and_then, refl, ap, sym, ◌∙◌}
+use Rattle.hr_base.specs.Lists.{when}
 use Rattle.hr_engine.specs.declared.reply.RunReply.{RunReply}
 use Rattle.hr_engine.specs.declared.reply.RunReply.TheVariants as run
 use Rattle.hr_history.specs.declared.cause.CauseAt.{CauseAt}
 use Rattle.hr_history.specs.declared.cause.CauseAt.TheVariants as cause
-use Rattle.hr_history.specs.declared.entry.Event.{Event}
 use Rattle.hr_history.specs.declared.entry.Event.TheVariants as event
-use Rattle.hr_history.specs.declared.phase.Fresh.{Fresh}
 use Rattle.hr_history.specs.History.{History}
 use Rattle.hr_history.specs.Transactions.{begun, phase_of, is_open}
 use Rattle.hr_history.specs.Processed.{phase_in, is_primary}
 use Rattle.hr_history.specs.Turn.{Turn, turn_of}
 use Rattle.hr_history.specs.View.{View, view_of}
-use Rattle.hr_history.specs.Rules.{owed_conviction, convict, primary_gone, cause_by, refuse_after, primary_reply, due_in, due}
+use Rattle.hr_history.specs.Rules.{owed_conviction, convict, primary_gone, cause_by, refuse_after, primary_reply, due_in}
 use Rattle.hr_history.specs.Faithful.{Faithful}
 use Rattle.hr_records.specs.ByRule.{HasCause, IsReplyOfPrimary}
 use Rattle.hr_records.specs.Numbers.{IsBorn}

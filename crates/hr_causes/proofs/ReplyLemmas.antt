@@ -1,8 +1,6 @@
 -- A refusal for the primary's reply: that is the turn's call, and the primary was the primary then.
-use Rattle.std.proofs.Common.{◌≡◌, ℕ, ◌+◌, ◌*◌, ◌<◌, Bool, true, false, if◌then◌else◌, Option, Some, List, [], ◌∷◌, ◌++◌, length, refl, ap, sym, ◌∙◌, subst, arith, IsTrue}
+use Rattle.std.proofs.Common.{◌≡◌, ℕ, ◌+◌, ◌*◌, ◌<◌, true, false, if◌then◌else◌, Some, List, [], ◌∷◌, ◌++◌, length, refl, ap, sym, ◌∙◌, subst, IsTrue}
 use Rattle.hr_base.specs.Lists.{last_of}
-use Rattle.hr_engine.specs.Attempts.{is_running}
-use Rattle.hr_engine.specs.Waits.{wait, is_sound_deadlock}
 use Rattle.hr_engine.specs.declared.reply.RunReply.{RunReply}
 use Rattle.hr_engine.specs.declared.reply.RunReply.TheVariants as run
 use Rattle.hr_history.specs.declared.cause.CauseAt.TheVariants as cause
@@ -10,14 +8,13 @@ use Rattle.hr_history.specs.declared.entry.Entry.{Entry}
 use Rattle.hr_history.specs.declared.entry.Event.TheVariants as event
 use Rattle.hr_history.specs.declared.job.Job.TheVariants as job
 use Rattle.hr_history.specs.declared.job.JobReply.TheVariants as reply
-use Rattle.hr_history.specs.declared.phase.Fresh.{Fresh}
 use Rattle.hr_history.specs.History.{History}
 use Rattle.hr_history.specs.Transactions.{begun, phase_of, is_open}
-use Rattle.hr_history.specs.Replicas.{out_at, journal_of, is_convicted, tells_loss}
-use Rattle.hr_history.specs.Primary.{primary_of, is_some_of, other_than}
-use Rattle.hr_history.specs.Processed.{phase_in, is_primary, replica_in}
+use Rattle.hr_history.specs.Replicas.{out_at, journal_of, tells_loss}
+use Rattle.hr_history.specs.Primary.{primary_of, other_than}
+use Rattle.hr_history.specs.Processed.{phase_in, replica_in}
 use Rattle.hr_history.specs.Rules.{due}
-use Rattle.hr_history.specs.Turn.{turn_of, turn_start, fresh_of, replies_to_runs}
+use Rattle.hr_history.specs.Turn.{turn_of, fresh_of, replies_to_runs}
 use Rattle.hr_history.specs.View.{view_of, Progress}
 use Rattle.hr_history.specs.Faithful.{Begun}
 use Rattle.hr_history.proofs.StepLemmas.{replica_lookup, call_allowed}
@@ -30,7 +27,6 @@ use Rattle.hr_records.proofs.RuleLemmas.{begun_before, by_rule, was_due}
 use Rattle.hr_records.proofs.ViewWords.{open_seen}
 use Rattle.hr_calls.specs.Callers.{AreFollowUps}
 use Rattle.hr_calls.proofs.PartLemmas.{follow_ups}
-use Rattle.hr_causes.specs.Places.{StandsInTurn}
 use Rattle.hr_causes.specs.Causes.{PrimaryReplied, IsShownDeadlock, IsShownMemory}
 use Rattle.hr_causes.proofs.TurnWords.{FreshReply, fresh_shown}
 use Rattle.hr_causes.proofs.PrimaryLemmas.{unconvicted, primary_then, o_then}

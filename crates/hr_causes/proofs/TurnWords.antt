@@ -1,5 +1,5 @@
 -- What a turn's words tell of the turn's entries.
-use Rattle.std.proofs.Common.{◌≡◌, ◌⊎◌, inl, inr, ℕ, ◌+◌, Bool, true, false, ◌&&◌, if◌then◌else◌, Option, Some, None, List, [], ◌∷◌, ◌++◌, length, option_map, refl, ap, sym, ◌∙◌, subst}
+use Rattle.std.proofs.Common.{◌≡◌, ◌⊎◌, inl, inr, ℕ, Bool, true, false, ◌&&◌, if◌then◌else◌, Option, Some, None, List, [], ◌∷◌, ◌++◌, length, option_map, refl, ap, sym, ◌∙◌, subst}
 use Rattle.std.proofs.lemmas.Bool.{and_parts}
 use Rattle.hr_base.specs.Lists.{last_of, when}
 use Rattle.hr_engine.specs.declared.reply.RunReply.{RunReply}
@@ -29,7 +29,7 @@ use Rattle.hr_records.proofs.Options.{some_none, same_some}
 use Rattle.hr_records.proofs.JobWords.{primary_is}
 use Rattle.hr_records.proofs.RuleLemmas.{by_rule}
 use Rattle.hr_calls.specs.Callers.{AreFollowUps}
-use Rattle.hr_causes.specs.Places.{StandsAt, StandsInTurn}
+use Rattle.hr_causes.specs.Places.{StandsInTurn}
 use Rattle.hr_causes.specs.Causes.{GoesBy, IsShownChange, is_no_reply}
 
 pub last_end : {X : Type 0} (xs : List X) (x : X) → last_of (xs ++ x ∷ []) ≡ Some x

@@ -1,5 +1,5 @@
 -- What shows why a transaction is refused.
-use Rattle.std.specs.Prelude.{◌≡◌, ℕ, ◌<◌, Bool, true, false, Some, List, length, IsTrue}
+use Rattle.std.specs.Prelude.{◌≡◌, ℕ, ◌<◌, Bool, true, false, Some, List, IsTrue}
 use Rattle.hr_base.specs.Lists.{numbered}
 use Rattle.hr_rel.specs.declared.answer.Answer.{Answer}
 use Rattle.hr_engine.specs.Attempts.{attempt, answers, is_running}
@@ -13,7 +13,6 @@ use Rattle.hr_history.specs.declared.cause.Why.TheVariants as why
 use Rattle.hr_history.specs.declared.entry.Event.{Event}
 use Rattle.hr_history.specs.declared.entry.Event.TheVariants as event
 use Rattle.hr_history.specs.declared.evidence.Evidence.{Evidence}
-use Rattle.hr_history.specs.declared.job.Job.{Job}
 use Rattle.hr_history.specs.declared.job.Job.TheVariants as job
 use Rattle.hr_history.specs.declared.job.JobReply.{JobReply}
 use Rattle.hr_history.specs.declared.job.JobReply.TheVariants as reply

@@ -1,0 +1,4 @@
+pub mod Firsts
+pub mod PlayedLemmas
+pub mod DoneLemmas
+pub mod StampLemmas

@@ -1,0 +1,38 @@
+//! The laws.
+ghost use Rattle.std.specs.Prelude.{◌≡◌, ℕ, ◌+◌, ◌*◌, ◌<◌, Some, ◌∷◌};
+ghost use Rattle.hr_rel.specs.declared.answer.Answer.{Answer};
+ghost use Rattle.hr_rel.specs.Database.{Database};
+ghost use Rattle.hr_engine.specs.declared.reply.RunReply.TheVariants.{Done};
+ghost use Rattle.hr_history.specs.declared.entry.Event.TheVariants.{Give};
+ghost use Rattle.hr_history.specs.declared.job.Job.TheVariants.{Run};
+ghost use Rattle.hr_history.specs.declared.job.JobReply.TheVariants.{Ran};
+ghost use Rattle.hr_history.specs.History.{History};
+ghost use Rattle.hr_history.specs.Replicas.{out_at};
+ghost use Rattle.hr_history.specs.Given.{given_to};
+ghost use Rattle.hr_history.specs.Faithful.{Begun, Correct};
+ghost use Rattle.hr_barriers.specs.Played.{IsProcessedTo, IsNoneOfTheFirst, AnswersAsPlayed, IsAnswerAsPlayed};
+ghost use Rattle.hr_barriers.specs.Stamps.{span, AreStampedTo};
+
+/// The stamps of the answers given to a transaction ascend, and none is above its span: the length of the log, as of the
+/// transaction's end.
+pub fn stamps()
+    ensures { (f sessions t : ℕ) (h : History) → Begun f sessions h → AreStampedTo (given_to t h) (span t h) }
+{}
+
+/// A correct replica's attempt of a transaction answers as the transaction does alone, on the database after the first
+/// transactions of the log: after as many as are committed there, or more, as far as they are processed there and the
+/// transaction is none of them. So its answers are the same on each of these databases.
+pub fn answers_as_played()
+    ensures { (f sessions r place t : ℕ) (db : Database) (h : History) → Begun f sessions h → r < 2 * f + 1 → Correct db h r → IsProcessedTo f r place h → IsNoneOfTheFirst place t h
+        → AnswersAsPlayed db place t r h }
+{}
+
+/// What a correct replica answers to a statement, at a first run or a later one, is the statement's answer in the transaction
+/// alone, on each database that may have stood there: that after any first part of the log that is processed there, from what
+/// is committed on, and that hasn't the transaction itself.
+pub fn done_as_played()
+    ensures { (f sessions caller r t i place : ℕ) (told : Answer) (db : Database) (before : History) → Begun f sessions (record { caller = caller; event = Give r (Ran (Done told)) } ∷ before)
+        → out_at r before ≡ Some (Run t i) → Correct db (record { caller = caller; event = Give r (Ran (Done told)) } ∷ before) r
+        → IsProcessedTo f r place (record { caller = caller; event = Give r (Ran (Done told)) } ∷ before) → IsNoneOfTheFirst place t (record { caller = caller; event = Give r (Ran (Done told)) } ∷ before)
+        → IsAnswerAsPlayed db place t i told (record { caller = caller; event = Give r (Ran (Done told)) } ∷ before) }
+{}
