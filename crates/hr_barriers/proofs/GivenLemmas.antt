@@ -1,17 +1,14 @@
 -- The answers given to an open transaction are those in the primary's attempt.
-use Rattle.std.proofs.Common.{◌≡◌, ◌⊎◌, inl, inr, ℕ, zero, suc, ◌+◌, ◌*◌, ◌<◌, ◌≤◌, Bool, true, false, ◌&&◌, ◌==◌, if◌then◌else◌, Option, Some, None, is_some, List, [], ◌∷◌, ◌++◌, length, map, refl, ap, sym, ◌∙◌, subst, arith}
+use Rattle.std.proofs.Common.{◌≡◌, ◌⊎◌, inl, inr, ℕ, ◌+◌, Bool, true, false, ◌&&◌, ◌==◌, if◌then◌else◌, Option, Some, None, is_some, List, [], ◌∷◌, ◌++◌, length, refl, ap, sym, ◌∙◌, subst, arith}
 use Rattle.std.proofs.lemmas.Bool.{eqb-true, eq-eqb}
-use Rattle.std.proofs.lemmas.List.{map-append, length-map}
+use Rattle.std.proofs.lemmas.List.{map-append}
 use Rattle.hr_rel.specs.declared.answer.Answer.{Answer}
-use Rattle.hr_engine.specs.Journal.{Call, Ran, Committed, RolledBack, Journal}
+use Rattle.hr_engine.specs.Journal.{Call, Ran}
 use Rattle.hr_engine.specs.Attempts.{RanStmt, attempt, answers}
 use Rattle.hr_engine.specs.Base.{settled}
-use Rattle.hr_engine.specs.declared.reply.RunReply.{RunReply}
 use Rattle.hr_engine.specs.declared.reply.RunReply.TheVariants as run
-use Rattle.hr_engine.specs.declared.reply.EndReply.{EndReply}
 use Rattle.hr_engine.specs.declared.reply.EndReply.TheVariants as end
 use Rattle.hr_engine.proofs.AttemptLaws.{attempt-done, attempt-done_other, attempt-committed_other, attempt-rolled_back_other}
-use Rattle.hr_history.specs.declared.entry.Entry.{Entry}
 use Rattle.hr_history.specs.declared.entry.Event.{Event}
 use Rattle.hr_history.specs.declared.entry.Event.TheVariants as event
 use Rattle.hr_history.specs.declared.job.Job.{Job}
@@ -35,10 +32,9 @@ use Rattle.hr_records.proofs.Options.{some_none, same_some}
 use Rattle.hr_records.proofs.Places.{same_or_not}
 use Rattle.hr_records.proofs.Born.{born_or_not}
 use Rattle.hr_records.proofs.NumberSteps.{not_both}
-use Rattle.hr_records.proofs.NumberLemmas.{given_at_begin, phase_at_begin}
-use Rattle.hr_records.proofs.Allowed.{begin_allowed, give_allowed, restart_allowed, ran_out}
-use Rattle.hr_records.proofs.GiveLemmas.{is_given, given_where, is_given_at, given_not, no_more}
-use Rattle.hr_records.proofs.JobWords.{many}
+use Rattle.hr_records.proofs.NumberLemmas.{given_at_begin}
+use Rattle.hr_records.proofs.Allowed.{begin_allowed, give_allowed, restart_allowed}
+use Rattle.hr_records.proofs.GiveLemmas.{is_given, is_given_at, given_not, no_more}
 use Rattle.hr_records.proofs.RuleLemmas.{begun_before, by_rule}
 use Rattle.hr_records.proofs.KeptLemmas.{kept}
 use Rattle.hr_records.proofs.LeadLemmas.{refused_all}
