@@ -2,3 +2,4 @@ pub mod Firsts
 pub mod PlayedLemmas
 pub mod DoneLemmas
 pub mod StampLemmas
+pub mod GivenLemmas

@@ -1,17 +1,25 @@
 //! The laws.
-ghost use Rattle.std.specs.Prelude.{◌≡◌, ℕ, ◌+◌, ◌*◌, ◌<◌, Some, ◌∷◌};
+ghost use Rattle.std.specs.Prelude.{◌≡◌, true, ℕ, ◌+◌, ◌*◌, ◌<◌, Some, ◌∷◌};
 ghost use Rattle.hr_rel.specs.declared.answer.Answer.{Answer};
 ghost use Rattle.hr_rel.specs.Database.{Database};
+ghost use Rattle.hr_engine.specs.Attempts.{attempt, answers};
 ghost use Rattle.hr_engine.specs.declared.reply.RunReply.TheVariants.{Done};
 ghost use Rattle.hr_history.specs.declared.entry.Event.TheVariants.{Give};
 ghost use Rattle.hr_history.specs.declared.job.Job.TheVariants.{Run};
 ghost use Rattle.hr_history.specs.declared.job.JobReply.TheVariants.{Ran};
 ghost use Rattle.hr_history.specs.History.{History};
-ghost use Rattle.hr_history.specs.Replicas.{out_at};
-ghost use Rattle.hr_history.specs.Given.{given_to};
+ghost use Rattle.hr_history.specs.Transactions.{phase_of, is_open};
+ghost use Rattle.hr_history.specs.Replicas.{out_at, journal_of};
+ghost use Rattle.hr_history.specs.Primary.{primary_of};
+ghost use Rattle.hr_history.specs.Given.{given_to, answers_given};
 ghost use Rattle.hr_history.specs.Faithful.{Begun, Correct};
 ghost use Rattle.hr_barriers.specs.Played.{IsProcessedTo, IsNoneOfTheFirst, AnswersAsPlayed, IsAnswerAsPlayed};
 ghost use Rattle.hr_barriers.specs.Stamps.{span, AreStampedTo};
+
+/// The answers given to an open transaction are those in the primary's attempt of it.
+pub fn given_by_the_primary()
+    ensures { (f sessions t r : ℕ) (h : History) → Begun f sessions h → primary_of h ≡ Some r → is_open (phase_of t h) ≡ true → answers_given (given_to t h) ≡ answers (attempt t (journal_of r h)) }
+{}
 
 /// The stamps of the answers given to a transaction ascend, and none is above its span: the length of the log, as of the
 /// transaction's end.
