@@ -1,5 +1,5 @@
 -- Routes that lead back to the asker are the cycles that would close, and the order of routes is that of telling.
-use Rattle.std.proofs.Common.{◌≡◌, ◌<◌, ◌+◌, ℕ, suc, Bool, true, false, not, ◌&&◌, ◌||◌, ◌==◌, nat_lt, if◌then◌else◌, ◌⊎◌, inl, inr, IsTrue, List, [], ◌∷◌, ◌++◌, length, reverse, refl, ap, sym, subst, ◌∙◌, arith}
+use Rattle.std.proofs.Common.{◌≡◌, ◌<◌, ◌+◌, ℕ, suc, Bool, true, false, not, ◌&&◌, ◌||◌, ◌==◌, nat_lt, if◌then◌else◌, inl, inr, List, [], ◌∷◌, ◌++◌, length, reverse, refl, ap, sym, subst, ◌∙◌, arith}
 use Rattle.std.specs.Ordering.{nat_cmp, is_le, ordering_then}
 use Rattle.std.specs.declared.cmp.Ordering.{Ordering}
 use Rattle.std.specs.declared.cmp.Ordering.TheVariants.{Less, Equal}
@@ -9,10 +9,10 @@ use Rattle.std.proofs.lemmas.Bool.{and_parts, and_from, or_left, or_right, eq-eq
 use Rattle.std.proofs.lemmas.Bool.Decides.{Decides-eqb}
 use Rattle.std.specs.Bool.{one_answer}
 use Rattle.std.proofs.lemmas.List.{append_assoc, append-nil, reverse-append}
-use Rattle.hr_base.specs.Lists.{has, is_ascending}
+use Rattle.hr_base.specs.Lists.{has}
 use Rattle.hr_locks.specs.Cycles.{is_chain, closes, is_told_before, IsToldCycle}
 use Rattle.hr_locks.specs.Waits.{next_in}
-use Rattle.hr_locks.proofs.Orders.{Lower, Before, AtMost, at_most_trans}
+use Rattle.hr_locks.proofs.Orders.{Lower, AtMost, at_most_trans}
 use Rattle.hr_locks.proofs.Routes.{head_of, IsRoute}
 
 -- the first list the other way round, before the second

@@ -1,14 +1,14 @@
 -- The routes to those in a queue, and what one step of a search makes of them.
-use Rattle.std.proofs.Common.{◌≡◌, ◌<◌, ◌≤◌, ◌+◌, ℕ, zero, suc, Bool, true, false, ◌||◌, ◌==◌, if◌then◌else◌, cond, ◌⊎◌, inl, inr, List, [], ◌∷◌, ◌++◌, Option, Some, None, IfSome, length, get_or, refl, ap, sym, subst, ◌∙◌, arith}
+use Rattle.std.proofs.Common.{◌≡◌, ◌<◌, ◌+◌, ℕ, zero, suc, Bool, true, false, ◌||◌, ◌==◌, if◌then◌else◌, inl, inr, List, [], ◌∷◌, ◌++◌, Option, Some, None, IfSome, length, get_or, refl, ap, sym, subst, ◌∙◌, arith}
 use Rattle.std.specs.List.{list_any}
 use Rattle.std.proofs.lemmas.Bool.{or_cases, or_left, or_right, eq-eqb, eqb-true, true≢false}
 use Rattle.std.proofs.lemmas.List.{append_assoc, length-append, get_or_append_left}
 use Rattle.std.proofs.Math.Seq.{get_or-append_seam}
 use Rattle.std.proofs.lemmas.List.Folds.{list_any-append}
-use Rattle.hr_base.specs.Lists.{has, is_ascending}
+use Rattle.hr_base.specs.Lists.{is_ascending}
 use Rattle.hr_locks.specs.declared.search.Link.{Link}
-use Rattle.hr_locks.specs.Searches.{reaches, with_link, led_on, rest_by, route_by, routes_on, routes, IsLinkedFrom, IsLinked}
-use Rattle.hr_locks.proofs.Routes.{In, head_of, ascending_rest, State, at_first, Mid, mid_start, mid_skip, mid_add, mid_finish}
+use Rattle.hr_locks.specs.Searches.{reaches, led_on, rest_by, route_by, routes_on, routes, IsLinkedFrom, IsLinked}
+use Rattle.hr_locks.proofs.Routes.{In, head_of, ascending_rest, State, at_first, Mid, mid_skip, mid_add}
 
 pub one_more : (found : List (List ℕ)) (r : List ℕ) → length (found ++ r ∷ []) ≡ suc (length found)
 one_more [] r = refl

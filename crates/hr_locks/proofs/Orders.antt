@@ -1,6 +1,6 @@
 -- The order in which a search finds routes: shorter ones first, and of two as long the one that is lower at the first
 -- difference. A route is kept with its last member first.
-use Rattle.std.proofs.Common.{◌≡◌, ℕ, suc, ◌<◌, ◌+◌, ◌⊎◌, inl, inr, List, [], ◌∷◌, ◌++◌, length, refl, ap, sym, subst, ◌∙◌, arith}
+use Rattle.std.proofs.Common.{◌≡◌, ℕ, suc, ◌<◌, ◌⊎◌, inl, inr, List, [], ◌∷◌, length, refl, ap, sym, subst, ◌∙◌, arith}
 
 -- routes as long, the first lower at the first difference, from the end of the lists on
 abbrev pub Lower : List ℕ → List ℕ → Type 0

@@ -1,11 +1,11 @@
 -- What a search in layers has found. It begins at the asker, who would wait for those in its way. A route is a way of waits
 -- from the asker, kept with its last member first.
-use Rattle.std.proofs.Common.{◌≡◌, ℕ, Bool, true, false, ◌<◌, ◌==◌, ◌⊎◌, inl, inr, IsTrue, List, [], ◌∷◌, ◌++◌, refl, ap, sym, subst, ◌∙◌, arith}
+use Rattle.std.proofs.Common.{◌≡◌, ℕ, Bool, true, false, ◌<◌, ◌==◌, ◌⊎◌, inl, inr, List, [], ◌∷◌, ◌++◌, refl, ap, sym, subst, ◌∙◌, arith}
 use Rattle.std.proofs.lemmas.Bool.{and_parts, or_cases, eqb-true, ltb-true, true≢false}
 use Rattle.std.proofs.lemmas.List.{append_assoc}
 use Rattle.hr_base.specs.Lists.{has, is_ascending}
 use Rattle.hr_base.proofs.ListLaws.{has_head, has_tail}
-use Rattle.hr_locks.proofs.Orders.{Before, AtMost, before_trans, before_at_most, at_most_trans, led_on, led_on_same, beside, longer}
+use Rattle.hr_locks.proofs.Orders.{Before, AtMost, before_trans, at_most_trans, led_on, led_on_same, beside, longer}
 
 abbrev pub In : List ℕ → List (List ℕ) → Type 0
 In q [] = ⊥

@@ -1,5 +1,5 @@
 -- One step of a search: the one at a place of the queue is led on.
-use Rattle.std.proofs.Common.{◌≡◌, ◌<◌, ◌≤◌, ◌+◌, ◌-◌, ℕ, zero, suc, Bool, true, false, ◌==◌, if◌then◌else◌, inl, inr, List, [], ◌∷◌, ◌++◌, Option, Some, None, length, get_or, take, map, refl, ap, sym, subst, ◌∙◌, arith}
+use Rattle.std.proofs.Common.{◌≡◌, ◌<◌, ◌≤◌, ◌+◌, ◌-◌, ℕ, zero, suc, Bool, true, false, ◌==◌, if◌then◌else◌, inl, inr, List, [], ◌∷◌, ◌++◌, Option, Some, length, get_or, take, map, refl, ap, sym, subst, ◌∙◌, arith}
 use Rattle.std.proofs.lemmas.Bool.{or_cases, eqb-true, true≢false}
 use Rattle.std.proofs.lemmas.List.{length-append, get_or_append_left, take-append-le, take_more, map-append}
 use Rattle.std.proofs.Math.Seq.{get_or-append_seam}
@@ -7,7 +7,7 @@ use Rattle.hr_base.specs.Lists.{has, is_ascending}
 use Rattle.hr_locks.specs.declared.search.Link.{Link}
 use Rattle.hr_locks.specs.declared.wait.Wait.{Wait}
 use Rattle.hr_locks.specs.Waits.{wait_seen, next_in}
-use Rattle.hr_locks.specs.Searches.{reaches, led_on, route_by, routes, IsLinked}
+use Rattle.hr_locks.specs.Searches.{reaches, led_on, routes}
 use Rattle.hr_locks.proofs.Orders.{AtMost}
 use Rattle.hr_locks.proofs.Routes.{In, in_right, head_of, IsRoute, State, Mid, mid_start, mid_finish, closest, none_closes, Sorted, sorted_between}
 use Rattle.hr_locks.proofs.Links.{one_more, routes_length, route_at, Searched, lead}

@@ -1,5 +1,5 @@
 -- What is locked, and whose locks are in whose way.
-use Rattle.std.specs.Prelude.{◌≡◌, ℕ, Bool, true, false, not, ◌&&◌, ◌||◌, ◌==◌, List, [], ◌∷◌, map, IsTrue}
+use Rattle.std.specs.Prelude.{◌≡◌, ℕ, Bool, true, false, not, ◌&&◌, ◌||◌, ◌==◌, List, [], ◌∷◌, IsTrue}
 use Rattle.std.specs.List.{list_any}
 use Rattle.hr_base.specs.Lists.{has, is_ascending}
 use Rattle.hr_locks.specs.declared.need.Mode.{Mode}

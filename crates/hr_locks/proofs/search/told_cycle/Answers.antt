@@ -1,4 +1,4 @@
-use Rattle.std.proofs.Common.{◌≡◌, ◌≤◌, ◌<◌, ◌+◌, ◌-◌, ◌∙◌, ℕ, Option, None, List, [], ◌∷◌, ◌++◌, true, false, length, get_or, map, take, reverse, sym, ap, subst, arith}
+use Rattle.std.proofs.Common.{◌≡◌, ◌≤◌, ◌<◌, ◌+◌, ◌-◌, ◌∙◌, None, [], ◌∷◌, ◌++◌, true, length, get_or, map, take, reverse, sym, ap, subst, arith}
 use Rattle.hr_base.specs.Lists.{has}
 use Rattle.hr_locks.specs.declared.search.Link.{Link}
 use Rattle.hr_locks.specs.Waits.{wait_seen, next_in}

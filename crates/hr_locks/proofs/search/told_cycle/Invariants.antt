@@ -1,4 +1,4 @@
-use Rattle.std.proofs.Common.{◌≡◌, ◌+◌, ◌-◌, ℕ, map, take, length}
+use Rattle.std.proofs.Common.{◌+◌, ◌-◌, map, take, length}
 use Rattle.hr_locks.specs.Waits.{wait_seen, next_in}
 use Rattle.hr_locks.proofs.Links.{Searched}
 use Rattle.hr_locks.proofs.Unread.{unread}

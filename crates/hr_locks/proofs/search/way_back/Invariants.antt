@@ -1,4 +1,4 @@
-use Rattle.std.proofs.Common.{◌≡◌, ◌<◌, ◌+◌, ℕ, [], ◌++◌, length, get_or, Option, Some, None, IfSome}
+use Rattle.std.proofs.Common.{◌≡◌, ◌<◌, [], ◌++◌, length, get_or, IfSome}
 use Rattle.hr_locks.specs.Searches.{routes, rest_by}
 use Rattle.hr_locks.proofs.Links.{left}
 use Rattle.hr_locks.proofs.search.way_back.Given as goal
