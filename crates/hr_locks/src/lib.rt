@@ -5,6 +5,8 @@
 mod conflicts;
 mod need;
 mod search;
+#[cfg(test)]
+mod tests;
 mod wait;
 
 pub use conflicts::holders;
