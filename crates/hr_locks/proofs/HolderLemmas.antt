@@ -1,0 +1,121 @@
+-- Ascending lists with one more, and who is in the way of a request.
+use Rattle.std.proofs.Common.{◌≡◌, ◌≢◌, ℕ, zero, suc, Bool, true, false, not, ◌&&◌, ◌||◌, ◌==◌, ◌<◌, ◌≤◌, ◌+◌, inl, inr, List, [], ◌∷◌, ◌++◌, length, get_or, take, drop, refl, ap, sym, subst, ◌∙◌, arith}
+use Rattle.std.proofs.lemmas.Bool.{and_from, or_cases, eqb-true, lt-ltb}
+use Rattle.hr_base.specs.Lists.{has, is_ascending}
+use Rattle.hr_base.proofs.ListLaws.{has_head, has_tail}
+use Rattle.std.specs.List.{list_any}
+use Rattle.std.proofs.lemmas.List.Folds.{list_any_more}
+use Rattle.hr_locks.specs.declared.need.Lock.{Lock}
+use Rattle.hr_locks.specs.declared.need.Need.{Need}
+use Rattle.hr_locks.specs.Locks.{is_conflict, is_against, is_in_the_way}
+use Rattle.hr_locks.proofs.Routes.{above_first, ascending_rest}
+
+-- one more in a list
+or_last : (b : Bool) → (b || false) ≡ (false || b)
+or_last true = refl
+or_last false = refl
+
+or_turn : (a b c : Bool) → (a || (b || c)) ≡ ((b || c) || a)
+or_turn true true c = refl
+or_turn true false true = refl
+or_turn true false false = refl
+or_turn false true c = refl
+or_turn false false true = refl
+or_turn false false false = refl
+
+or_nest : (a b c d : Bool) → b ≡ (c || d) → (a || b) ≡ ((a || c) || d)
+or_nest true b c d e = refl
+or_nest false b c d e = e
+
+pub has_put : (xs : List ℕ) (at t u : ℕ) → has (take at xs ++ t ∷ drop at xs) u ≡ (has xs u || (t == u))
+has_put [] zero t u = or_last (t == u)
+has_put [] (suc at) t u = or_last (t == u)
+has_put (x ∷ xs) zero t u = or_turn (t == u) (x == u) (has xs u)
+has_put (x ∷ xs) (suc at) t u = or_nest (x == u) (has (take at xs ++ t ∷ drop at xs) u) (has xs u) (t == u) (has_put xs at t u)
+
+-- what stands before an ascending list, if it is less than each
+cons_ascending : (x : ℕ) (ys : List ℕ) → is_ascending ys ≡ true → ((u : ℕ) → has ys u ≡ true → x < u) → is_ascending (x ∷ ys) ≡ true
+cons_ascending x [] a less = refl
+cons_ascending x (y ∷ ys) a less = and_from _ (is_ascending (y ∷ ys)) (lt-ltb x y (less y (has_head y ys))) a
+
+less_than_put : (x t u : ℕ) (xs : List ℕ) → is_ascending (x ∷ xs) ≡ true → x < t → (has xs u || (t == u)) ≡ true → x < u
+less_than_put x t u xs a l h =
+    elim (or_cases (has xs u) (t == u) h) [
+      | inl i ↦ above_first x xs a u i
+      | inr e ↦ subst (λ v. x < v) (eqb-true t u e) l
+    ]
+
+-- a number put where those before are less and the next is greater
+pub ascending_put : (xs : List ℕ) (at t : ℕ) → is_ascending xs ≡ true → ((k : ℕ) → k < at → get_or xs k 0 < t) → (at < length xs → t < get_or xs at 0)
+    → at ≤ length xs → is_ascending (take at xs ++ t ∷ drop at xs) ≡ true
+ascending_put [] zero t a before after w = refl
+ascending_put [] (suc at) t a before after w = refl
+ascending_put (x ∷ xs) zero t a before after w = and_from _ (is_ascending (x ∷ xs)) (lt-ltb t x (after (omega arith))) a
+ascending_put (x ∷ xs) (suc at) t a before after w =
+    cons_ascending x (take at xs ++ t ∷ drop at xs)
+    (ascending_put xs at t (ascending_rest x xs a) (λ k l. before (suc k) (omega arith)) (λ l. after (omega arith)) (omega arith))
+    (λ u h. less_than_put x t u xs a (before zero (omega arith)) (sym (has_put xs at t u) ∙ h))
+
+-- what stands at a place of a list is in it
+pub has_at : (xs : List ℕ) (at t : ℕ) → at < length xs → get_or xs at 0 ≡ t → has xs t ≡ true
+has_at [] at t l e = absurd (omega arith)
+has_at (x ∷ xs) zero t l e = subst (λ v. has (x ∷ xs) v ≡ true) e (has_head x xs)
+has_at (x ∷ xs) (suc at) t l e = has_tail t x xs (has_at xs at t (omega arith) e)
+
+same_more : (o b : Bool) → (b ≡ true → o ≡ true) → o ≡ (o || b)
+same_more true b h = refl
+same_more false true h = h refl
+same_more false false h = refl
+
+-- nothing changes for one that is there
+pub has_already : (xs : List ℕ) (at t : ℕ) → at < length xs → get_or xs at 0 ≡ t → (u : ℕ) → has xs u ≡ (has xs u || (t == u))
+has_already xs at t l e u = same_more (has xs u) (t == u) (λ same. subst (λ v. has xs v ≡ true) (eqb-true t u same) (has_at xs at t l e))
+
+-- one more lock: `b`, it is of t; `d`, t is the asker; `e`, it is of the asker; `a`, it conflicts
+in_way_table : (w a b d e : Bool) → (not e && a) ≡ true → (b ≡ true → e ≡ d) → ((not d && w) || b) ≡ (not d && (w || (b && a)))
+in_way_table true a true true true h s = cc
+in_way_table true a true true false h s = cc (s refl)
+in_way_table true a true false e h s = refl
+in_way_table false a true true true h s = cc
+in_way_table false a true true false h s = cc (s refl)
+in_way_table false true true false e h s = refl
+in_way_table false false true false true h s = cc
+in_way_table false false true false false h s = cc
+in_way_table w a false true e h s = refl
+in_way_table true a false false e h s = refl
+in_way_table false a false false e h s = refl
+
+out_of_way_table : (w a b d e : Bool) → (not e && a) ≡ false → (b ≡ true → e ≡ d) → (not d && w) ≡ (not d && (w || (b && a)))
+out_of_way_table w a b true e h s = refl
+out_of_way_table true a b false e h s = refl
+out_of_way_table false a false false e h s = refl
+out_of_way_table false false true false e h s = refl
+out_of_way_table false true true false true h s = cc (s refl)
+out_of_way_table false true true false false h s = cc
+
+module _ (txn t asker : ℕ) (w a : Bool) where
+  of_asker : (txn == t) ≡ true → (txn == asker) ≡ (t == asker)
+  of_asker e = ap (λ v. v == asker) (eqb-true txn t e)
+
+  -- the holders with those of one more lock
+  pub more_in_way : (n o : Bool) → n ≡ (o || (txn == t)) → o ≡ (not (t == asker) && w) → (not (txn == asker) && a) ≡ true → n ≡ (not (t == asker) && (w || ((txn == t) && a)))
+  more_in_way n o e f h = e ∙ ap (λ v. v || (txn == t)) f ∙ in_way_table w a (txn == t) (t == asker) (txn == asker) h of_asker
+
+  pub same_in_way : (o : Bool) → o ≡ (not (t == asker) && w) → (not (txn == asker) && a) ≡ false → o ≡ (not (t == asker) && (w || ((txn == t) && a)))
+  same_in_way o f h = f ∙ out_of_way_table w a (txn == t) (t == asker) (txn == asker) h of_asker
+
+strictly : (t g : ℕ) → t ≤ g → (g ≡ t → ⊥) → t < g
+strictly t g l differ = omega arith
+
+-- what is not less at a place, and doesn't stand there, is greater
+pub greater_at : (xs : List ℕ) (at t : ℕ) → (at < length xs → t ≤ get_or xs at 0) → (at < length xs → get_or xs at 0 ≢ t) → at < length xs → t < get_or xs at 0
+greater_at xs at t not_less other l = strictly t (get_or xs at 0) (not_less l) (other l)
+
+-- who is in the way, with one more lock
+pub one_lock : {N : Type 0} (meets : N → N → Bool) (locks : List (Lock N)) (needs : List (Need N)) (at t asker : ℕ) (lock : Lock N) → at < length locks → lock ≡ get_or locks at lock
+    → (not (t == asker) && (is_in_the_way meets (take at locks) needs t || ((lock.txn == t) && list_any (λ need. is_conflict meets lock.need need) needs)))
+    ≡ (not (t == asker) && is_in_the_way meets (take (at + 1) locks) needs t)
+one_lock meets locks needs at t asker lock l is =
+    ap (λ b. not (t == asker) && b)
+    (ap (λ b. is_in_the_way meets (take at locks) needs t || b) (ap (is_against meets needs t) is)
+    ∙ sym (list_any_more (is_against meets needs t) locks at lock l))

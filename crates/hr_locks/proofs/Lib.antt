@@ -1,0 +1,7 @@
+mod Orders
+mod Routes
+mod HolderLemmas
+mod Links
+mod Unread
+mod Closing
+mod Steps

@@ -1,0 +1,4 @@
+pub mod Locks
+pub mod Cycles
+pub mod Waits
+pub mod Searches
