@@ -1,0 +1,5 @@
+pub mod EvidenceLemmas
+pub mod CountLemmas
+pub mod ReplyWords
+pub mod WaitWords
+pub mod ReplyLemmas
