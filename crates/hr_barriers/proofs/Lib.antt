@@ -5,3 +5,6 @@ pub mod StampLemmas
 pub mod GivenLemmas
 pub mod WholeWords
 pub mod WholeLemmas
+pub mod ProcessedLemmas
+pub mod StandLemmas
+pub mod ServedLemmas

@@ -62,7 +62,7 @@ not_ended p place e is = no_end (sym (ap is_ended e) ∙ is)
 unlogged : (u t : ℕ) (p q : Phase) (place : ℕ) → ((n : ℕ) → p ≡ phase.Logged n → ⊥) → (if u == t then p else q) ≡ phase.Logged place → q ≡ phase.Logged place
 unlogged u t p q place never e = elim (same_or_not u t) [ inl same ↦ absurd (never place (sym (if_same u t p q same) ∙ e)) | inr other ↦ sym (if_other u t p q other) ∙ e ]
 
-other_none : (q r : ℕ) (o : Option ℕ) (b : Bool) → (q == r) ≡ b → other_than q o ≡ Some r → (o ≡ Some r) × (b ≡ false)
+pub other_none : (q r : ℕ) (o : Option ℕ) (b : Bool) → (q == r) ≡ b → other_than q o ≡ Some r → (o ≡ Some r) × (b ≡ false)
 other_none q r None b e is = absurd (some_none r (sym is))
 other_none q r (Some p) b e is = by_test (q == p) refl is
   where
