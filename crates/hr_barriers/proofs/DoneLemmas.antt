@@ -52,7 +52,7 @@ answers_end : (steps : List RanStmt) (s : RanStmt) → answers (steps ++ s ∷ [
 answers_end [] s = refl
 answers_end (x ∷ steps) s = ap (λ l. x.answer ∷ l) (answers_end steps s)
 
-journal_after : (c r t i : ℕ) (a : Answer) (h : History) → out_at r h ≡ Some (job.Run t i)
+pub journal_after : (c r t i : ℕ) (a : Answer) (h : History) → out_at r h ≡ Some (job.Run t i)
     → journal_of r (record { caller = c; event = event.Give r (reply.Ran (run.Done a)) } ∷ h) ≡ Ran t (stmt_at h t i) (run.Done a) ∷ journal_of r h
 journal_after c r t i a h out =
     ap (λ b. next_journal (call_if b r (reply.Ran (run.Done a)) (λ q. out_at q h) (stmt_at h)) (journal_of r h)) (eq-eqb r r refl)

@@ -8,3 +8,7 @@ pub mod WholeLemmas
 pub mod ProcessedLemmas
 pub mod StandLemmas
 pub mod ServedLemmas
+pub mod SpanLemmas
+pub mod WindowLemmas
+pub mod TakenLemmas
+pub mod BarrierLemmas

@@ -67,7 +67,7 @@ all_taken p (x ∷ xs) all = taken_by p x xs (p x) (all 0 x refl) (all_taken p x
 
 module _ (f r : ℕ) (h : History) (k : Kept h) (lt : r < 2 * f + 1) where
   -- who is held is processed
-  held_processed : (t place : ℕ) → phase_of t h ≡ phase.Logged place → (committed : Bool)
+  pub held_processed : (t place : ℕ) → phase_of t h ≡ phase.Logged place → (committed : Bool)
       → IsHeld place (count (journal_of r h)) (length (attempt t (journal_of r h))) (length (submits t h)) committed → is_processed (view_of f h) r t ≡ true
   held_processed t place e _ (inl le) =
       let born = logged_born h k t place e in

@@ -125,12 +125,12 @@ primary_at_decide f s c u t h b k o some none =
 
 -- ONE MORE ENTRY
 -- The answer was given by this entry: it has the log's length as its stamp, the log and the transaction stand, and there is a primary.
-record IsNew (t : ℕ) (g : Given) (now h : History) : Type 0 where
-  stamp : g.stamp ≡ length (log h)
-  same_log : log now ≡ log h
-  open_now : is_open (phase_of t now) ≡ true
-  giver : ℕ
-  primary : primary_of now ≡ Some giver
+pub record IsNew (t : ℕ) (g : Given) (now h : History) : Type 0 where
+  pub stamp : g.stamp ≡ length (log h)
+  pub same_log : log now ≡ log h
+  pub open_now : is_open (phase_of t now) ≡ true
+  pub giver : ℕ
+  pub primary : primary_of now ≡ Some giver
 
 old_by : (x : Bool) (xs : List Given) (y g : Given) (i : ℕ) → numbered (if x then xs ++ y ∷ [] else xs) i ≡ Some g → (numbered xs i ≡ Some g) ⊎ ((x ≡ true) × (y ≡ g))
 old_by false xs y g i e = inl e
@@ -161,7 +161,7 @@ module _ (f s c t i : ℕ) (g : Given) (h : History) (k : Kept h) where
   old_at_give q (reply.Ended x) b e = inl e
   old_at_give q reply.StillLost b e = inl e
 
-  old_or_new : (e : Event) → Begun f s (record { caller = c; event = e } ∷ h) → numbered (given_to t (record { caller = c; event = e } ∷ h)) i ≡ Some g
+  pub old_or_new : (e : Event) → Begun f s (record { caller = c; event = e } ∷ h) → numbered (given_to t (record { caller = c; event = e } ∷ h)) i ≡ Some g
       → (numbered (given_to t h) i ≡ Some g) ⊎ IsNew t g (record { caller = c; event = e } ∷ h) h
   old_or_new (event.Give q told) b e = old_at_give q told b e
   old_or_new (event.Begin session txn) b e =

@@ -44,7 +44,7 @@ module _ (f s c : ℕ) (h : History) (k : Kept h) where
   submits_by (event.Submit txn index x) b t = if_begins (txn == t) (submits t h) x
   submits_by _ b t = all_of (submits t h)
 
-log_by : (c : ℕ) (e : Event) (h : History) → Begins (log h) (log (record { caller = c; event = e } ∷ h))
+pub log_by : (c : ℕ) (e : Event) (h : History) → Begins (log h) (log (record { caller = c; event = e } ∷ h))
 log_by c (event.Decide txn) h = (txn ∷ [], refl)
 log_by c _ h = all_of (log h)
 
@@ -59,7 +59,7 @@ span_within t [] = omega arith
 span_within t (e ∷ h) =
     span_by (is_open (phase_of t (e ∷ h))) (is_open (phase_of t h)) (length (log (e ∷ h))) (length (log h)) (span t h) (log_longer e.caller e.event h) (span_within t h)
 
-closed_logged : (h : History) → Kept h → (i t : ℕ) → slice_get (log h) i ≡ Some t → is_open (phase_of t h) ≡ false
+pub closed_logged : (h : History) → Kept h → (i t : ℕ) → slice_get (log h) i ≡ Some t → is_open (phase_of t h) ≡ false
 closed_logged h k i t e = ap is_open ((k.numbers.logged t (suc i)).1 e)
 
 module _ (f s m : ℕ) (e : Entry) (h : History) (k : Kept h) (b : Begun f s (e ∷ h)) (le : m ≤ length (log h)) where

@@ -3,6 +3,7 @@ ghost use Rattle.std.specs.Prelude.{◌≡◌, true, ℕ, ◌+◌, ◌*◌, ◌<
 ghost use Rattle.hr_base.specs.Lists.{numbered};
 ghost use Rattle.hr_rel.specs.declared.answer.Answer.{Answer};
 ghost use Rattle.hr_rel.specs.Database.{Database};
+ghost use Rattle.hr_meaning.specs.SameAnswer.{SameAnswer};
 ghost use Rattle.hr_engine.specs.Attempts.{attempt, answers};
 ghost use Rattle.hr_engine.specs.declared.reply.RunReply.TheVariants.{Done};
 ghost use Rattle.hr_history.specs.declared.entry.Event.TheVariants.{Give};
@@ -59,4 +60,14 @@ pub fn done_as_played()
 pub fn given_on()
     ensures { (f sessions t i place : ℕ) (db : Database) (given : Given) (h : History) → Begun f sessions h → IsServed db t h → numbered (given_to t h) i ≡ Some given
         → given.stamp ≤ place → place ≤ span t h → IsAnswerAsPlayed db place t i given.answer h }
+{}
+
+/// The barrier theorem: what a correct replica answers to a statement whose answer was given is the same answer, whenever it
+/// is told: at a first run or a later one, before the transaction's end or after. For this who was the primary while the
+/// transaction was open, and had answers, has to be correct as far as then, and the replica as far as this reply. However many
+/// others lie doesn't matter.
+pub fn barrier()
+    ensures { (f sessions caller r t i : ℕ) (told : Answer) (given : Given) (db : Database) (before : History) → Begun f sessions (record { caller = caller; event = Give r (Ran (Done told)) } ∷ before)
+        → out_at r before ≡ Some (Run t i) → IsServed db t (record { caller = caller; event = Give r (Ran (Done told)) } ∷ before) → Correct db (record { caller = caller; event = Give r (Ran (Done told)) } ∷ before) r
+        → numbered (given_to t (record { caller = caller; event = Give r (Ran (Done told)) } ∷ before)) i ≡ Some given → SameAnswer given.answer told }
 {}
