@@ -64,7 +64,7 @@ front_by p x m xs true passes rest =
     omega (arith, rest, ap (λ n. length (take n (x ∷ xs))) one)
 front_by p x m xs false passes rest = cc passes
 
-front_taken : (p : ℕ → Bool) (xs : List ℕ) (m : ℕ) → m ≤ length xs → ((i t : ℕ) → i < m → slice_get xs i ≡ Some t → p t ≡ true) → m ≤ length (take (prefix_len p xs) xs)
+pub front_taken : (p : ℕ → Bool) (xs : List ℕ) (m : ℕ) → m ≤ length xs → ((i t : ℕ) → i < m → slice_get xs i ≡ Some t → p t ≡ true) → m ≤ length (take (prefix_len p xs) xs)
 front_taken p xs zero le all = omega arith
 front_taken p [] (suc m) le all = absurd (omega (arith, le))
 front_taken p (x ∷ xs) (suc m) le all = front_by p x m xs (p x) (all 0 x (omega arith) refl) (front_taken p xs m (omega (arith, le)) (λ i t lt e. all (suc i) t (omega (arith, lt)) e))

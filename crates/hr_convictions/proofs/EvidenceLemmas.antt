@@ -22,11 +22,11 @@ use Rattle.hr_records.proofs.Options.{same_some, some_none}
 use Rattle.hr_records.proofs.RuleLemmas.{by_rule}
 use Rattle.hr_causes.proofs.TurnWords.{when_some}
 
-first_of : {X : Type 0} (o : Option X) (os : List (Option X)) (x : X) → first_some (o ∷ os) ≡ Some x → (o ≡ Some x) ⊎ (first_some os ≡ Some x)
+pub first_of : {X : Type 0} (o : Option X) (os : List (Option X)) (x : X) → first_some (o ∷ os) ≡ Some x → (o ≡ Some x) ⊎ (first_some os ≡ Some x)
 first_of None os x e = inr e
 first_of (Some y) os x e = inl e
 
-then_some : {X Y : Type 0} (g : X → Option Y) (o : Option X) (y : Y) → option_and_then g o ≡ Some y → (x : X) × (o ≡ Some x) × (g x ≡ Some y)
+pub then_some : {X Y : Type 0} (g : X → Option Y) (o : Option X) (y : Y) → option_and_then g o ≡ Some y → (x : X) × (o ≡ Some x) × (g x ≡ Some y)
 then_some g None y e = absurd (some_none y (sym e))
 then_some g (Some x) y e = (x, refl, e)
 

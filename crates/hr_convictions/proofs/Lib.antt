@@ -3,3 +3,5 @@ pub mod CountLemmas
 pub mod ReplyWords
 pub mod WaitWords
 pub mod ReplyLemmas
+pub mod CanonicalLemmas
+pub mod DifferLemmas
