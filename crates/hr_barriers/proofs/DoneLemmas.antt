@@ -35,7 +35,7 @@ use Rattle.hr_barriers.specs.Played.{IsProcessedTo, IsNoneOfTheFirst, IsAnswerAs
 use Rattle.hr_barriers.proofs.PlayedLemmas.{played}
 
 -- of two lists side by side, what stands at a place of the second has its like at that place of the first
-zip_at : {A B : Type 0} (R : A → B → Type 0) (xs : List A) (ys : List B) (i : ℕ) (y : B) → AllZip R xs ys → numbered ys i ≡ Some y → (x : A) × (numbered xs i ≡ Some x) × R x y
+pub zip_at : {A B : Type 0} (R : A → B → Type 0) (xs : List A) (ys : List B) (i : ℕ) (y : B) → AllZip R xs ys → numbered ys i ≡ Some y → (x : A) × (numbered xs i ≡ Some x) × R x y
 zip_at R xs ys zero y all e = absurd (some_none y (sym e))
 zip_at R [] [] (suc n) y all e = absurd (some_none y (sym e))
 zip_at R [] (b ∷ ys) (suc n) y all e = absurd all
@@ -44,7 +44,7 @@ zip_at R (a ∷ xs) (b ∷ ys) (suc zero) y all e = (a, refl, subst (R a) (same_
 zip_at R (a ∷ xs) (b ∷ ys) (suc (suc n)) y all e = zip_at R xs ys (suc n) y all.1 e
 
 -- statements that begin others have the first of their answers
-play_front : (db : Database) (xs ys : List Stmt) (i : ℕ) (x : Answer) → Begins xs ys → numbered (play db xs).answers i ≡ Some x → numbered (play db ys).answers i ≡ Some x
+pub play_front : (db : Database) (xs ys : List Stmt) (i : ℕ) (x : Answer) → Begins xs ys → numbered (play db xs).answers i ≡ Some x → numbered (play db ys).answers i ≡ Some x
 play_front db xs ys i x b e =
     ap (λ l. numbered (play db l).answers i) (sym b.1) ∙ ap (λ p. numbered p.answers i) (play-append db xs b.0) ∙ numbered_front (play db xs).answers (play (play db xs).after b.0).answers i x e
 
@@ -52,7 +52,7 @@ answers_end : (steps : List RanStmt) (s : RanStmt) → answers (steps ++ s ∷ [
 answers_end [] s = refl
 answers_end (x ∷ steps) s = ap (λ l. x.answer ∷ l) (answers_end steps s)
 
-journal_after : (c r t i : ℕ) (a : Answer) (h : History) → out_at r h ≡ Some (job.Run t i)
+pub journal_after : (c r t i : ℕ) (a : Answer) (h : History) → out_at r h ≡ Some (job.Run t i)
     → journal_of r (record { caller = c; event = event.Give r (reply.Ran (run.Done a)) } ∷ h) ≡ Ran t (stmt_at h t i) (run.Done a) ∷ journal_of r h
 journal_after c r t i a h out =
     ap (λ b. next_journal (call_if b r (reply.Ran (run.Done a)) (λ q. out_at q h) (stmt_at h)) (journal_of r h)) (eq-eqb r r refl)

@@ -3,3 +3,12 @@ pub mod PlayedLemmas
 pub mod DoneLemmas
 pub mod StampLemmas
 pub mod GivenLemmas
+pub mod WholeWords
+pub mod WholeLemmas
+pub mod ProcessedLemmas
+pub mod StandLemmas
+pub mod ServedLemmas
+pub mod SpanLemmas
+pub mod WindowLemmas
+pub mod TakenLemmas
+pub mod BarrierLemmas

@@ -82,7 +82,7 @@ module _ (f s c t : ℕ) (h : History) (k : Kept h) (stamped : AreStampedTo (giv
   given_now (event.NewPrimary q) b = stamped
   given_now (event.Preempt q txn) b = stamped
 
-log_longer : (c : ℕ) (e : Event) (h : History) → length (log h) ≤ length (log (record { caller = c; event = e } ∷ h))
+pub log_longer : (c : ℕ) (e : Event) (h : History) → length (log h) ≤ length (log (record { caller = c; event = e } ∷ h))
 log_longer c (event.Decide txn) h = omega (arith, length-append (log h) (txn ∷ []))
 log_longer c (event.Begin session txn) h = omega arith
 log_longer c (event.Submit txn index stmt) h = omega arith
@@ -102,7 +102,7 @@ pub span_open : (t : ℕ) (h : History) → is_open (phase_of t h) ≡ true → 
 span_open t [] o = refl
 span_open t (e ∷ h) o = ap (λ b. next_span b (is_open (phase_of t h)) (length (log (e ∷ h))) (length (log h)) (span t h)) o
 
-span_closed : (t : ℕ) (e : Entry) (h : History) (was : Bool) → is_open (phase_of t h) ≡ was → is_open (phase_of t (e ∷ h)) ≡ false → span t (e ∷ h) ≡ next_span false was (length (log (e ∷ h))) (length (log h)) (span t h)
+pub span_closed : (t : ℕ) (e : Entry) (h : History) (was : Bool) → is_open (phase_of t h) ≡ was → is_open (phase_of t (e ∷ h)) ≡ false → span t (e ∷ h) ≡ next_span false was (length (log (e ∷ h))) (length (log h)) (span t h)
 span_closed t e h was before now = λ i. next_span (now i) (before i) (length (log (e ∷ h))) (length (log h)) (span t h)
 
 stamped_next : (f s t : ℕ) (e : Entry) (h : History) → Begun f s (e ∷ h) → AreStampedTo (given_to t h) (span t h) → AreStampedTo (given_to t (e ∷ h)) (span t (e ∷ h))
