@@ -45,7 +45,7 @@ use Rattle.hr_barriers.proofs.WholeWords.{IsHeld, Holds, same_log, no_other, ele
 abbrev pub HoldsAt : ℕ → History → Type 0
 HoldsAt r h = Holds r (primary_of h) (λ t. phase_of t h) (count (journal_of r h)) (λ t. length (attempt t (journal_of r h))) (λ t. length (submits t h)) (λ t. is_preempted r t h) (out_at r h)
 
-asked_balance : (p : Phase) (s g : ℕ) (w : Bool) → is_asked p ≡ true → IsBalanced p s g w → s ≡ g
+pub asked_balance : (p : Phase) (s g : ℕ) (w : Bool) → is_asked p ≡ true → IsBalanced p s g w → s ≡ g
 asked_balance phase.Active s g w e b = cc e
 asked_balance (phase.Asked n) s g w e b = b.0
 asked_balance (phase.Logged n) s g w e b = cc e
