@@ -1,25 +1,22 @@
 -- The whole log is processed at the primary.
-use Rattle.std.proofs.Common.{◌≡◌, ◌⊎◌, inl, inr, ⊎_elim, ℕ, zero, suc, ◌+◌, ◌*◌, ◌<◌, ◌≤◌, Bool, true, false, cond, not, ◌&&◌, ◌||◌, ◌==◌, if◌then◌else◌, Option, Some, None, slice_get, take, List, [], ◌∷◌, length, refl, ap, sym, ◌∙◌, subst, arith}
+use Rattle.std.proofs.Common.{◌≡◌, inl, inr, ℕ, suc, ◌+◌, ◌*◌, ◌<◌, Bool, true, false, cond, ◌==◌, if◌then◌else◌, Some, slice_get, take, List, [], ◌∷◌, length, refl, ap, sym, ◌∙◌, subst, arith}
 use Rattle.std.specs.List.{prefix_len}
 use Rattle.std.proofs.lemmas.Bool.{eq-eqb, le-leb}
 use Rattle.hr_base.proofs.Tests.{or_first, or_second}
 use Rattle.hr_rel.specs.declared.answer.Answer.{Answer}
-use Rattle.hr_engine.specs.Attempts.{attempt, answers}
+use Rattle.hr_engine.specs.Attempts.{attempt}
 use Rattle.hr_engine.specs.Base.{count}
 use Rattle.hr_history.specs.declared.entry.Event.{Event}
 use Rattle.hr_history.specs.declared.entry.Event.TheVariants as event
-use Rattle.hr_history.specs.declared.phase.Phase.{Phase}
 use Rattle.hr_history.specs.declared.phase.Phase.TheVariants as phase
 use Rattle.hr_history.specs.History.{History}
-use Rattle.hr_history.specs.Transactions.{begun, log, submits, phase_of}
+use Rattle.hr_history.specs.Transactions.{log, submits, phase_of}
 use Rattle.hr_history.specs.Primary.{primary_of, other_than}
 use Rattle.hr_history.specs.Replicas.{journal_of, tells_loss}
-use Rattle.hr_history.specs.Turn.{turn_of}
 use Rattle.hr_history.specs.View.{view_of}
-use Rattle.hr_history.specs.Processed.{phase_in, replica_in, txn_in, answers_in, is_logged_by, is_committed, is_whole, is_processed, processed_in}
+use Rattle.hr_history.specs.Processed.{replica_in, txn_in, answers_in, is_logged_by, is_committed, is_whole, is_processed}
 use Rattle.hr_history.specs.Words.{processed_of}
 use Rattle.hr_history.specs.Faithful.{Begun}
-use Rattle.hr_records.specs.ByRule.{IsElected}
 use Rattle.hr_records.specs.Kept.{Kept}
 use Rattle.hr_records.proofs.Options.{some_none, same_some}
 use Rattle.hr_records.proofs.JobWords.{many}
@@ -27,7 +24,7 @@ use Rattle.hr_records.proofs.RuleLemmas.{begun_before, by_rule}
 use Rattle.hr_records.proofs.ViewWords.{phase_seen, statements_seen, answers_seen, position_seen}
 use Rattle.hr_records.proofs.KeptLemmas.{kept}
 use Rattle.hr_serial.proofs.Processed.{logged_born}
-use Rattle.hr_barriers.proofs.WholeWords.{IsHeld, Holds}
+use Rattle.hr_barriers.proofs.WholeWords.{IsHeld}
 use Rattle.hr_barriers.proofs.WholeLemmas.{HoldsAt, holds, other_none}
 
 -- THE PRIMARY IS A REPLICA OF THE HALL

@@ -1,8 +1,7 @@
 -- What a given answer is, on every database from its stamp on.
-use Rattle.std.proofs.Common.{◌≡◌, ◌⊎◌, inl, inr, ⊎_elim, ℕ, zero, suc, ◌+◌, ◌*◌, ◌<◌, ◌≤◌, Bool, true, false, not, ◌&&◌, if◌then◌else◌, ◌==◌, Option, Some, None, is_some, slice_get, List, [], ◌∷◌, ◌++◌, length, map, option_and_then, option_map, find, refl, ap, sym, ◌∙◌, subst, arith, length-append}
+use Rattle.std.proofs.Common.{◌≡◌, ◌⊎◌, inl, inr, ⊎_elim, ℕ, zero, suc, ◌+◌, ◌<◌, ◌≤◌, Bool, true, false, not, ◌&&◌, if◌then◌else◌, Option, Some, None, is_some, List, [], ◌∷◌, ◌++◌, length, map, find, refl, ap, sym, ◌∙◌, subst, arith, length-append}
 use Rattle.std.proofs.lemmas.Bool.{and_parts}
 use Rattle.hr_base.specs.Lists.{numbered, first_some, when}
-use Rattle.hr_rel.specs.declared.answer.Answer.{Answer}
 use Rattle.hr_rel.specs.Database.{Database}
 use Rattle.hr_meaning.specs.Serial.{play, database_at}
 use Rattle.hr_meaning.specs.SameAnswer.{SameAnswer}
@@ -18,36 +17,35 @@ use Rattle.hr_history.specs.declared.job.JobReply.TheVariants as reply
 use Rattle.hr_history.specs.History.{History}
 use Rattle.hr_history.specs.ReplicaNumbers.{replica_numbers}
 use Rattle.hr_history.specs.Transactions.{begun, log, submits, phase_of, is_open}
-use Rattle.hr_history.specs.Primary.{primary_of, is_some_of, other_than}
+use Rattle.hr_history.specs.Primary.{primary_of, is_some_of}
 use Rattle.hr_history.specs.Replicas.{out_at, journal_of}
-use Rattle.hr_history.specs.Given.{Given, given_to, answers_given, is_run_of}
-use Rattle.hr_history.specs.Turn.{Turn, Gone, turn_of, went}
+use Rattle.hr_history.specs.Given.{Given, given_to, is_run_of}
+use Rattle.hr_history.specs.Turn.{Turn, turn_of, went}
 use Rattle.hr_history.specs.View.{View, view_of}
 use Rattle.hr_history.specs.Processed.{phase_in, replica_in}
 use Rattle.hr_history.specs.Jobs.{txn_numbers}
 use Rattle.hr_history.specs.Evidence.{evidence_of}
 use Rattle.hr_history.specs.Rules.{convict_with, owed_conviction, conviction_of, convict, refuse_for, primary_gone, due_in}
-use Rattle.hr_history.specs.Words.{processed_of}
-use Rattle.hr_history.specs.Faithful.{Begun, Correct, fits_job}
+use Rattle.hr_history.specs.Faithful.{Begun, Correct}
 use Rattle.hr_history.proofs.StepLemmas.{call_allowed}
 use Rattle.hr_records.specs.Numbers.{IsBorn}
 use Rattle.hr_records.specs.Kept.{Kept}
-use Rattle.hr_records.proofs.Options.{On, on_some, then_on, map_on, when_on, first_of_on, some_none, same_some}
+use Rattle.hr_records.proofs.Options.{On, then_on, map_on, when_on, first_of_on, some_none, same_some}
 use Rattle.hr_records.proofs.Places.{numbered_born, numbered_more}
 use Rattle.hr_records.proofs.Born.{born_or_not}
 use Rattle.hr_records.proofs.NumberSteps.{not_both, open_unlogged}
 use Rattle.hr_records.proofs.NumberLemmas.{given_at_begin}
-use Rattle.hr_records.proofs.Allowed.{begin_allowed, give_allowed, ran_out}
+use Rattle.hr_records.proofs.Allowed.{begin_allowed}
 use Rattle.hr_records.proofs.RuleLemmas.{begun_before, was_due}
-use Rattle.hr_records.proofs.GiveLemmas.{is_given, given_where}
+use Rattle.hr_records.proofs.GiveLemmas.{is_given}
 use Rattle.hr_records.proofs.LeadLemmas.{refused_all}
 use Rattle.hr_records.proofs.JobWords.{primary_is}
 use Rattle.hr_records.proofs.KeptLemmas.{kept}
 use Rattle.hr_records.proofs.Closed.{frozen, phase_stands}
-use Rattle.hr_serial.specs.Prefix.{log_statements, IsAtPrefix}
+use Rattle.hr_serial.specs.Prefix.{log_statements}
 use Rattle.hr_serial.proofs.PrefixLemmas.{at_prefix}
 use Rattle.hr_barriers.specs.Played.{IsProcessedTo, IsNoneOfTheFirst, IsAnswerAsPlayed}
-use Rattle.hr_barriers.specs.Stamps.{span, next_span}
+use Rattle.hr_barriers.specs.Stamps.{span}
 use Rattle.hr_barriers.specs.Served.{IsServed}
 use Rattle.hr_barriers.proofs.PlayedLemmas.{played}
 use Rattle.hr_barriers.proofs.DoneLemmas.{zip_at, play_front}

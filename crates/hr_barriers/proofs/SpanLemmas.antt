@@ -1,9 +1,8 @@
 -- Spans grow, and a decided transaction's is one less than its place.
-use Rattle.std.proofs.Common.{◌≡◌, inl, inr, ℕ, ◌+◌, ◌≤◌, Bool, true, false, if◌then◌else◌, ◌==◌, List, [], ◌∷◌, length, refl, ap, sym, ◌∙◌, arith}
+use Rattle.std.proofs.Common.{◌≡◌, inl, inr, ℕ, ◌+◌, ◌≤◌, Bool, true, false, [], ◌∷◌, length, refl, ap, sym, ◌∙◌, arith}
 use Rattle.hr_history.specs.declared.entry.Entry.{Entry}
 use Rattle.hr_history.specs.declared.entry.Event.{Event}
 use Rattle.hr_history.specs.declared.entry.Event.TheVariants as event
-use Rattle.hr_history.specs.declared.phase.Phase.{Phase}
 use Rattle.hr_history.specs.declared.phase.Phase.TheVariants as phase
 use Rattle.hr_history.specs.History.{History}
 use Rattle.hr_history.specs.Transactions.{log, phase_of, is_open}
@@ -11,8 +10,6 @@ use Rattle.hr_history.specs.Faithful.{Begun}
 use Rattle.hr_records.specs.Kept.{Kept}
 use Rattle.hr_records.proofs.Places.{same_or_not, if_same, if_other}
 use Rattle.hr_records.proofs.NumberSteps.{open_unlogged, same_place}
-use Rattle.hr_records.proofs.NumberLemmas.{phase_at_begin}
-use Rattle.hr_records.proofs.Allowed.{begin_allowed}
 use Rattle.hr_records.proofs.RuleLemmas.{begun_before}
 use Rattle.hr_records.proofs.KeptLemmas.{kept}
 use Rattle.hr_records.proofs.Closed.{phase_stands}

@@ -1,9 +1,8 @@
 -- An answer as played stands, as the history goes on.
-use Rattle.std.proofs.Common.{◌≡◌, ◌⊎◌, inl, inr, ℕ, suc, ◌+◌, ◌≤◌, Bool, true, false, if◌then◌else◌, ◌==◌, Some, slice_get, take, List, [], ◌∷◌, ◌++◌, length, map, refl, ap, sym, ◌∙◌, subst, arith}
+use Rattle.std.proofs.Common.{◌≡◌, ℕ, suc, ◌≤◌, Bool, true, false, if◌then◌else◌, ◌==◌, Some, slice_get, take, List, [], ◌∷◌, ◌++◌, length, map, refl, ap, sym, ◌∙◌, arith}
 use Rattle.std.proofs.lemmas.List.{map-append, length-map, take-append-le, append-nil}
 use Rattle.hr_base.specs.Lists.{numbered}
 use Rattle.hr_rel.specs.declared.answer.Answer.{Answer}
-use Rattle.hr_rel.specs.declared.stmt.Stmt.{Stmt}
 use Rattle.hr_rel.specs.Database.{Database}
 use Rattle.hr_meaning.specs.Serial.{play, database_at, database_after}
 use Rattle.hr_history.specs.declared.entry.Entry.{Entry}

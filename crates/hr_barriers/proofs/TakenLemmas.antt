@@ -1,13 +1,9 @@
 -- While a statement with a stamp is out at a replica, there is such a place of the log.
-use Rattle.std.proofs.Common.{◌≡◌, ◌⊎◌, inl, inr, ⊎_elim, ℕ, zero, suc, ◌+◌, ◌*◌, ◌<◌, ◌≤◌, Bool, true, false, not, ◌&&◌, ◌||◌, ◌==◌, nat_le, if◌then◌else◌, Option, Some, None, is_some, slice_get, List, [], ◌∷◌, ◌++◌, length, refl, ap, sym, ◌∙◌, subst, arith}
+use Rattle.std.proofs.Common.{◌≡◌, ◌⊎◌, inl, inr, ⊎_elim, ℕ, suc, ◌+◌, ◌*◌, ◌<◌, ◌≤◌, Bool, true, false, not, ◌&&◌, ◌||◌, ◌==◌, if◌then◌else◌, Option, Some, None, slice_get, List, [], ◌∷◌, ◌++◌, length, refl, ap, sym, ◌∙◌, subst, arith}
 use Rattle.std.proofs.lemmas.Bool.{and_parts, or_cases, eqb-true, eq-eqb, leb-true}
 use Rattle.hr_base.specs.Lists.{numbered}
 use Rattle.hr_base.proofs.Tests.{if_false}
-use Rattle.hr_rel.specs.declared.answer.Answer.{Answer}
-use Rattle.hr_engine.specs.Attempts.{attempt, answers}
-use Rattle.hr_engine.specs.Base.{count}
 use Rattle.hr_engine.specs.declared.reply.RunReply.TheVariants as run
-use Rattle.hr_history.specs.declared.entry.Entry.{Entry}
 use Rattle.hr_history.specs.declared.entry.Event.{Event}
 use Rattle.hr_history.specs.declared.entry.Event.TheVariants as event
 use Rattle.hr_history.specs.declared.job.Job.{Job}
@@ -17,12 +13,12 @@ use Rattle.hr_history.specs.declared.job.JobReply.TheVariants as reply
 use Rattle.hr_history.specs.declared.phase.Phase.{Phase}
 use Rattle.hr_history.specs.declared.phase.Phase.TheVariants as phase
 use Rattle.hr_history.specs.History.{History, is_call}
-use Rattle.hr_history.specs.Transactions.{begun, log, submits, phase_of, is_open, is_logged}
+use Rattle.hr_history.specs.Transactions.{log, phase_of, is_open, is_logged}
 use Rattle.hr_history.specs.Primary.{primary_of, is_some_of}
 use Rattle.hr_history.specs.Replicas.{out_at, journal_of, stmt_at, call_if, restart_if, next_journal}
 use Rattle.hr_history.specs.Given.{Given, given_to, is_run_of}
 use Rattle.hr_history.specs.View.{view_of}
-use Rattle.hr_history.specs.Processed.{phase_in, replica_in, txn_in, answers_in, is_committed, processed_in, is_logged_by}
+use Rattle.hr_history.specs.Processed.{phase_in, replica_in, txn_in, answers_in, is_committed, processed_in}
 use Rattle.hr_history.specs.Jobs.{may_go_on, is_stamped_by}
 use Rattle.hr_history.specs.Faithful.{Begun}
 use Rattle.hr_history.proofs.StepLemmas.{call_allowed}

@@ -1,7 +1,6 @@
 -- The primary holds the whole log: each of it is committed there or whole.
-use Rattle.std.proofs.Common.{◌≡◌, ◌⊎◌, inl, inr, ⊎_elim, ℕ, suc, ◌+◌, ◌*◌, ◌<◌, ◌≤◌, Bool, true, false, not, ◌&&◌, ◌||◌, ◌==◌, if◌then◌else◌, Option, Some, None, slice_get, List, [], ◌∷◌, ◌++◌, length, refl, ap, sym, ◌∙◌, subst, arith, length-append}
+use Rattle.std.proofs.Common.{◌≡◌, ◌⊎◌, inl, inr, ℕ, suc, ◌+◌, ◌*◌, ◌<◌, ◌≤◌, Bool, true, false, not, ◌&&◌, ◌||◌, ◌==◌, if◌then◌else◌, Option, Some, None, [], ◌∷◌, ◌++◌, length, refl, ap, sym, ◌∙◌, subst, arith, length-append}
 use Rattle.std.proofs.lemmas.Bool.{and_parts, or_cases, eqb-true, eq-eqb}
-use Rattle.hr_base.specs.Lists.{numbered}
 use Rattle.hr_base.proofs.Tests.{and_false, or_second}
 use Rattle.hr_engine.specs.Journal.{Call, Ran, Committed, RolledBack}
 use Rattle.hr_engine.specs.Attempts.{attempt, statements}
@@ -9,7 +8,6 @@ use Rattle.hr_engine.specs.Base.{settled, count}
 use Rattle.hr_engine.specs.declared.reply.RunReply.TheVariants as run
 use Rattle.hr_engine.specs.declared.reply.EndReply.TheVariants as end
 use Rattle.hr_engine.proofs.AttemptLaws.{attempt-done_other, attempt-committed_other, attempt-rolled_back_other}
-use Rattle.hr_history.specs.declared.entry.Entry.{Entry}
 use Rattle.hr_history.specs.declared.entry.Event.{Event}
 use Rattle.hr_history.specs.declared.entry.Event.TheVariants as event
 use Rattle.hr_history.specs.declared.job.Job.{Job}
@@ -25,7 +23,7 @@ use Rattle.hr_history.specs.Replicas.{out_at, journal_of, stmt_at, call_if, call
 use Rattle.hr_history.specs.Attempts.{is_preempted, is_touched, unless_ended}
 use Rattle.hr_history.specs.Turn.{turn_of}
 use Rattle.hr_history.specs.View.{view_of}
-use Rattle.hr_history.specs.Processed.{phase_in, attempt_in, replica_in, is_primary}
+use Rattle.hr_history.specs.Processed.{phase_in, attempt_in, replica_in}
 use Rattle.hr_history.specs.Given.{given_to}
 use Rattle.hr_history.specs.Faithful.{Begun, fits_job}
 use Rattle.hr_history.proofs.StepLemmas.{call_allowed}
@@ -36,16 +34,16 @@ use Rattle.hr_records.proofs.Options.{some_none, same_some}
 use Rattle.hr_records.proofs.Places.{same_or_not, if_other, if_same, numbered_born, numbered_some}
 use Rattle.hr_records.proofs.NumberSteps.{not_both, same_place}
 use Rattle.hr_records.proofs.NumberLemmas.{phase_at_begin, submits_at_begin}
-use Rattle.hr_records.proofs.Allowed.{begin_allowed, submit_allowed, take_allowed, give_allowed, restart_allowed, may_go_on}
+use Rattle.hr_records.proofs.Allowed.{begin_allowed, submit_allowed, take_allowed, give_allowed, restart_allowed}
 use Rattle.hr_records.proofs.RuleLemmas.{begun_before, by_rule, asked_is_open}
-use Rattle.hr_records.proofs.ViewWords.{txn_born, phase_seen, preempted_seen, position_seen, open_seen}
+use Rattle.hr_records.proofs.ViewWords.{txn_born, phase_seen, preempted_seen, position_seen}
 use Rattle.hr_records.proofs.KeptLemmas.{kept, decided_asked}
 use Rattle.hr_barriers.proofs.WholeWords.{IsHeld, Holds, same_log, no_other, elected, taken, more_preempted, replied}
 
 abbrev pub HoldsAt : ℕ → History → Type 0
 HoldsAt r h = Holds r (primary_of h) (λ t. phase_of t h) (count (journal_of r h)) (λ t. length (attempt t (journal_of r h))) (λ t. length (submits t h)) (λ t. is_preempted r t h) (out_at r h)
 
-asked_balance : (p : Phase) (s g : ℕ) (w : Bool) → is_asked p ≡ true → IsBalanced p s g w → s ≡ g
+pub asked_balance : (p : Phase) (s g : ℕ) (w : Bool) → is_asked p ≡ true → IsBalanced p s g w → s ≡ g
 asked_balance phase.Active s g w e b = cc e
 asked_balance (phase.Asked n) s g w e b = b.0
 asked_balance (phase.Logged n) s g w e b = cc e

@@ -1,51 +1,36 @@
 -- A statement with a stamp that is out at a replica: a database on which it may be answered there and by the primary.
-use Rattle.std.proofs.Common.{◌≡◌, ◌⊎◌, inl, inr, ⊎_elim, ℕ, zero, suc, ◌+◌, ◌*◌, ◌<◌, ◌≤◌, max, Bool, true, false, not, ◌&&◌, ◌||◌, ◌==◌, nat_le, if◌then◌else◌, Option, Some, None, is_some, slice_get, List, [], ◌∷◌, ◌++◌, length, refl, ap, sym, ◌∙◌, subst, arith}
+use Rattle.std.proofs.Common.{◌≡◌, ◌⊎◌, inl, inr, ⊎_elim, ℕ, suc, ◌+◌, ◌*◌, ◌<◌, ◌≤◌, max, Bool, true, false, nat_le, Some, slice_get, List, ◌∷◌, length, refl, ap, sym, ◌∙◌, arith}
 use Rattle.std.specs.List.{prefix_len}
-use Rattle.std.proofs.lemmas.Bool.{and_parts, or_cases, eqb-true, eq-eqb, leb-true, leb-false, le-leb}
+use Rattle.std.proofs.lemmas.Bool.{or_cases, eqb-true, leb-true, leb-false}
 use Rattle.hr_base.specs.Lists.{numbered}
-use Rattle.hr_base.proofs.Tests.{if_false}
 use Rattle.hr_rel.specs.declared.answer.Answer.{Answer}
-use Rattle.hr_engine.specs.Attempts.{attempt, answers}
+use Rattle.hr_engine.specs.Attempts.{attempt}
 use Rattle.hr_engine.specs.Base.{count}
 use Rattle.hr_history.specs.declared.entry.Entry.{Entry}
 use Rattle.hr_history.specs.declared.entry.Event.{Event}
-use Rattle.hr_history.specs.declared.entry.Event.TheVariants as event
-use Rattle.hr_history.specs.declared.job.Job.{Job}
-use Rattle.hr_history.specs.declared.job.Job.TheVariants as job
 use Rattle.hr_history.specs.declared.phase.Phase.{Phase}
 use Rattle.hr_history.specs.declared.phase.Phase.TheVariants as phase
 use Rattle.hr_history.specs.History.{History}
-use Rattle.hr_history.specs.Transactions.{begun, log, submits, phase_of, is_open, is_logged}
-use Rattle.hr_history.specs.Primary.{primary_of}
-use Rattle.hr_history.specs.Replicas.{out_at, journal_of, stmt_at, call_if, restart_if, next_journal}
+use Rattle.hr_history.specs.Transactions.{begun, log, submits, phase_of, is_open}
+use Rattle.hr_history.specs.Replicas.{journal_of}
 use Rattle.hr_history.specs.Given.{Given, given_to}
-use Rattle.hr_history.specs.Turn.{went}
 use Rattle.hr_history.specs.View.{view_of}
-use Rattle.hr_history.specs.Processed.{phase_in, replica_in, txn_in, answers_in, is_committed, is_whole, is_processed, processed_in, is_logged_by}
-use Rattle.hr_history.specs.Jobs.{pending_index, may_go_on, is_stamped_by}
+use Rattle.hr_history.specs.Processed.{replica_in, is_committed, is_whole, is_processed, processed_in, is_logged_by}
 use Rattle.hr_history.specs.Faithful.{Begun}
-use Rattle.hr_history.proofs.StepLemmas.{call_allowed}
-use Rattle.hr_records.specs.ByRule.{IsJobOf}
 use Rattle.hr_records.specs.Numbers.{IsBorn}
 use Rattle.hr_records.specs.Kept.{Kept}
-use Rattle.hr_records.proofs.Options.{some_none, same_some}
-use Rattle.hr_records.proofs.Places.{numbered_born, got_front, got_some, got_within}
-use Rattle.hr_records.proofs.NumberSteps.{not_both, open_unlogged, same_place}
-use Rattle.hr_records.proofs.Allowed.{take_allowed}
+use Rattle.hr_records.proofs.Places.{got_front, got_some}
+use Rattle.hr_records.proofs.NumberSteps.{open_unlogged, same_place}
 use Rattle.hr_records.proofs.JobWords.{many}
-use Rattle.hr_records.proofs.RuleLemmas.{begun_before, nothing_due}
-use Rattle.hr_records.proofs.ViewWords.{txn_born, phase_seen, given_seen, statements_seen, answers_seen, position_seen}
-use Rattle.hr_records.proofs.LeadLemmas.{none_for_gone, refused_all}
-use Rattle.hr_records.proofs.KeptLemmas.{kept}
+use Rattle.hr_records.proofs.ViewWords.{phase_seen, statements_seen, answers_seen, position_seen}
 use Rattle.hr_records.proofs.Closed.{frozen}
 use Rattle.hr_serial.proofs.Processed.{logged_born}
-use Rattle.hr_barriers.specs.Played.{IsProcessedTo, IsNoneOfTheFirst}
-use Rattle.hr_barriers.specs.Stamps.{span, AreStampedTo}
+use Rattle.hr_barriers.specs.Played.{IsNoneOfTheFirst}
+use Rattle.hr_barriers.specs.Stamps.{span}
 use Rattle.hr_barriers.proofs.Firsts.{first_pass, first_short}
 use Rattle.hr_barriers.proofs.StampLemmas.{stamped, span_open}
 use Rattle.hr_barriers.proofs.StandLemmas.{span_within, log_by, closed_logged}
 use Rattle.hr_barriers.proofs.SpanLemmas.{span_grows, logged_span}
-use Rattle.hr_barriers.proofs.ServedLemmas.{IsNew, old_or_new}
 
 -- Such a place of the log: from the stamp on, within the transaction's span, no fewer than are committed at the replica, each
 -- of the first so many committed there or whole, and the transaction none of them.

@@ -1,14 +1,13 @@
 -- All answers that are told are canonical, so those that are the same are equal.
-use Rattle.std.proofs.Common.{◌≡◌, ℕ, Bool, true, false, ◌&&◌, ◌==◌, if◌then◌else◌, cond, Option, Some, None, Ok, Err, List, [], ◌∷◌, ◌++◌, length, map, refl, ap, sym, ◌∙◌, subst}
-use Rattle.std.specs.List.{list_all, AllZip}
-use Rattle.std.proofs.lemmas.Bool.{and_parts, eqb-true}
+use Rattle.std.proofs.Common.{◌≡◌, ℕ, Bool, true, false, ◌&&◌, ◌==◌, if◌then◌else◌, Option, Some, None, List, [], ◌∷◌, ◌++◌, length, refl, ap, sym, ◌∙◌, subst}
+use Rattle.std.specs.List.{AllZip}
+use Rattle.std.proofs.lemmas.Bool.{eqb-true}
 use Rattle.hr_rel.specs.declared.answer.Answer.{Answer}
 use Rattle.hr_meaning.specs.SameAnswer.{SameAnswer}
 use Rattle.hr_engine.specs.Journal.{Call, Ran, Committed, RolledBack, Restarted, Journal}
 use Rattle.hr_engine.specs.Attempts.{RanStmt, attempt, answers}
 use Rattle.hr_engine.specs.declared.reply.RunReply.TheVariants as run
 use Rattle.hr_engine.specs.declared.reply.EndReply.TheVariants as end
-use Rattle.hr_history.specs.declared.entry.Entry.{Entry}
 use Rattle.hr_history.specs.declared.entry.Event.{Event}
 use Rattle.hr_history.specs.declared.entry.Event.TheVariants as event
 use Rattle.hr_history.specs.declared.job.Job.{Job}
@@ -17,7 +16,7 @@ use Rattle.hr_history.specs.declared.job.JobReply.{JobReply}
 use Rattle.hr_history.specs.declared.job.JobReply.TheVariants as reply
 use Rattle.hr_history.specs.History.{History}
 use Rattle.hr_history.specs.Transactions.{log}
-use Rattle.hr_history.specs.SameAnswers.{is_canonical, same_answer, same_answers}
+use Rattle.hr_history.specs.SameAnswers.{is_canonical, same_answers}
 use Rattle.hr_history.specs.Replicas.{out_at, journal_of, stmt_at, call_if, call_of, restart_if, restart_of, next_journal}
 use Rattle.hr_history.specs.Given.{Given, given_to, answers_given}
 use Rattle.hr_history.specs.Faithful.{Begun, fits_job}

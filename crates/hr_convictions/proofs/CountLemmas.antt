@@ -1,5 +1,5 @@
 -- A correct replica's counts pass their test.
-use Rattle.std.proofs.Common.{◌≡◌, ◌⊎◌, inl, inr, ⊎_elim, ℕ, ◌+◌, Bool, true, false, not, ◌&&◌, ◌||◌, ◌==◌, Option, Some, None, is_some, IsSome, Ok, List, [], ◌∷◌, ◌++◌, length, refl, ap, sym, ◌∙◌, subst}
+use Rattle.std.proofs.Common.{◌≡◌, ◌⊎◌, inl, inr, ℕ, ◌+◌, Bool, true, false, not, ◌&&◌, ◌==◌, Option, Some, None, is_some, IsSome, Ok, List, [], ◌∷◌, length, refl, ap, sym, ◌∙◌, subst}
 use Rattle.std.proofs.lemmas.Bool.{eq-eqb}
 use Rattle.hr_base.specs.Lists.{when, last_of}
 use Rattle.hr_base.specs.Counters.{shown}
@@ -12,10 +12,7 @@ use Rattle.hr_engine.specs.Rigorous.{Rigorous}
 use Rattle.hr_history.specs.declared.entry.Entry.{Entry}
 use Rattle.hr_history.specs.declared.entry.Event.{Event}
 use Rattle.hr_history.specs.declared.entry.Event.TheVariants as event
-use Rattle.hr_history.specs.declared.evidence.Evidence.{Evidence}
 use Rattle.hr_history.specs.declared.evidence.Evidence.TheVariants as evidence
-use Rattle.hr_history.specs.declared.job.Job.{Job}
-use Rattle.hr_history.specs.declared.job.Job.TheVariants as job
 use Rattle.hr_history.specs.History.{History}
 use Rattle.hr_history.specs.Replicas.{out_at, journal_of, restart_if, restart_of, next_journal}
 use Rattle.hr_history.specs.Turn.{Counted, turn_of, bad_count, replies_to_runs, is_sound_count}
@@ -28,7 +25,7 @@ use Rattle.hr_records.proofs.Options.{some_none}
 use Rattle.hr_records.proofs.Allowed.{restart_allowed}
 use Rattle.hr_records.proofs.RuleLemmas.{begun_before}
 use Rattle.hr_causes.proofs.TurnWords.{when_some}
-use Rattle.hr_convictions.proofs.EvidenceLemmas.{Convicted, convicted, BadCount, counted, BadReply, replied, reply_is_no_count}
+use Rattle.hr_convictions.proofs.EvidenceLemmas.{convicted, BadCount, counted, BadReply, replied, reply_is_no_count}
 
 -- The replica told this count at a restart, by the journal then, and it fails the test; its journal ends there.
 record ToldCount (bad : Counted) (h : History) : Type 0 where

@@ -1,23 +1,22 @@
 -- A correct replica's next commit is as accepted.
-use Rattle.std.proofs.Common.{◌≡◌, ◌⊎◌, inl, inr, ⊎_elim, ℕ, zero, suc, ◌+◌, ◌*◌, ◌<◌, ◌≤◌, Bool, true, false, not, ◌&&◌, ◌==◌, Option, Some, None, slice_get, take, List, [], ◌∷◌, length, map, refl, ap, sym, ◌∙◌, subst, arith}
+use Rattle.std.proofs.Common.{◌≡◌, inl, inr, ⊎_elim, ℕ, zero, suc, ◌+◌, ◌*◌, ◌<◌, Bool, true, false, not, Option, Some, slice_get, take, List, [], ◌∷◌, length, map, refl, ap, sym, ◌∙◌, subst, arith}
 use Rattle.std.specs.List.{AllZip}
 use Rattle.std.proofs.lemmas.Bool.{and_parts}
-use Rattle.hr_base.specs.Lists.{first_some, last_of, when}
+use Rattle.hr_base.specs.Lists.{first_some, last_of}
 use Rattle.hr_rel.specs.declared.answer.Answer.{Answer}
 use Rattle.hr_rel.specs.declared.stmt.Stmt.{Stmt}
 use Rattle.hr_rel.specs.Database.{Database}
 use Rattle.hr_meaning.specs.Serial.{play, database_after, database_at, serial_answers}
 use Rattle.hr_meaning.specs.SameAnswer.{SameAnswer}
-use Rattle.hr_engine.specs.Attempts.{attempt, statements, answers}
+use Rattle.hr_engine.specs.Attempts.{attempt, answers}
 use Rattle.hr_engine.specs.Base.{count}
 use Rattle.hr_engine.specs.declared.reply.RunReply.{RunReply}
 use Rattle.hr_engine.specs.declared.reply.RunReply.TheVariants as run
 use Rattle.hr_history.specs.declared.entry.Event.TheVariants as event
-use Rattle.hr_history.specs.declared.evidence.Evidence.{Evidence}
 use Rattle.hr_history.specs.declared.evidence.Evidence.TheVariants as evidence
 use Rattle.hr_history.specs.History.{History}
 use Rattle.hr_history.specs.SameAnswers.{same_answers}
-use Rattle.hr_history.specs.Transactions.{begun, log, submits, phase_of}
+use Rattle.hr_history.specs.Transactions.{log, submits}
 use Rattle.hr_history.specs.Replicas.{journal_of}
 use Rattle.hr_history.specs.Given.{Given, given_to, answers_given}
 use Rattle.hr_history.specs.Turn.{Turn, Counted, turn_of}
@@ -35,7 +34,7 @@ use Rattle.hr_records.proofs.RuleLemmas.{begun_before, by_rule}
 use Rattle.hr_records.proofs.ViewWords.{given_seen, answers_seen, position_seen}
 use Rattle.hr_records.proofs.KeptLemmas.{kept}
 use Rattle.hr_serial.specs.Prefix.{log_statements}
-use Rattle.hr_serial.specs.Serial.{LiarsAreAtMost, AtEachDecide, AreSerial, accepted}
+use Rattle.hr_serial.specs.Serial.{LiarsAreAtMost, AtEachDecide}
 use Rattle.hr_serial.proofs.SerialLemmas.{serial}
 use Rattle.hr_serial.proofs.Processed.{whole_attempt, logged_born}
 use Rattle.hr_barriers.specs.Played.{IsProcessedTo, IsNoneOfTheFirst}

@@ -1,11 +1,10 @@
 -- Evidence read backwards: which part of a view shows it.
-use Rattle.std.proofs.Common.{◌≡◌, ◌⊎◌, inl, inr, ⊎_elim, ℕ, ◌+◌, ◌*◌, ◌<◌, Bool, true, false, not, ◌==◌, Option, Some, None, List, [], ◌∷◌, length, option_and_then, refl, ap, sym, ◌∙◌}
+use Rattle.std.proofs.Common.{◌≡◌, ◌⊎◌, inl, inr, ⊎_elim, ℕ, ◌+◌, ◌*◌, ◌<◌, Bool, true, false, not, ◌==◌, Option, Some, None, List, [], ◌∷◌, length, option_and_then, refl, sym}
 use Rattle.std.proofs.lemmas.Bool.{eqb-true}
 use Rattle.hr_base.specs.Lists.{last_of, first_some, when}
 use Rattle.hr_engine.specs.Waits.{is_sound_deadlock}
 use Rattle.hr_engine.specs.declared.reply.RunReply.{RunReply}
 use Rattle.hr_engine.specs.declared.reply.RunReply.TheVariants as run
-use Rattle.hr_history.specs.declared.entry.Entry.{Entry}
 use Rattle.hr_history.specs.declared.entry.Event.TheVariants as event
 use Rattle.hr_history.specs.declared.evidence.Evidence.{Evidence}
 use Rattle.hr_history.specs.declared.evidence.Evidence.TheVariants as evidence
@@ -18,7 +17,7 @@ use Rattle.hr_history.specs.Jobs.{next_in_log}
 use Rattle.hr_history.specs.Evidence.{evidence_of, differs, bad_waits, bad_reply, bad_restart, asker_of, is_sound_blocked}
 use Rattle.hr_history.specs.Faithful.{Begun}
 use Rattle.hr_records.specs.ByRule.{HasEvidence}
-use Rattle.hr_records.proofs.Options.{same_some, some_none}
+use Rattle.hr_records.proofs.Options.{some_none}
 use Rattle.hr_records.proofs.RuleLemmas.{by_rule}
 use Rattle.hr_causes.proofs.TurnWords.{when_some}
 

@@ -5,3 +5,5 @@ pub mod WaitWords
 pub mod ReplyLemmas
 pub mod CanonicalLemmas
 pub mod DifferLemmas
+pub mod ContradictedLemmas
+pub mod OwedLemmas

@@ -1,9 +1,8 @@
 -- A correct replica's replies that tell of waits pass their tests.
-use Rattle.std.proofs.Common.{◌≡◌, ◌⊎◌, inl, inr, ℕ, ◌+◌, ◌*◌, ◌<◌, Bool, true, false, Some, List, [], ◌∷◌, length, refl, ap, sym, ◌∙◌, subst}
+use Rattle.std.proofs.Common.{◌≡◌, ◌⊎◌, inl, inr, ℕ, ◌+◌, ◌*◌, ◌<◌, Bool, true, false, Some, List, ◌∷◌, length, refl, ap, ◌∙◌, subst}
 use Rattle.hr_base.specs.Lists.{last_of}
 use Rattle.hr_rel.specs.Database.{Database}
-use Rattle.hr_rel.specs.declared.stmt.Stmt.{Stmt}
-use Rattle.hr_engine.specs.Journal.{Call, Ran, Journal}
+use Rattle.hr_engine.specs.Journal.{Ran}
 use Rattle.hr_engine.specs.Attempts.{is_running}
 use Rattle.hr_engine.specs.Waits.{wait, is_sound_deadlock}
 use Rattle.hr_engine.specs.Rigorous.{Rigorous, IsSound}

@@ -1,6 +1,6 @@
 -- What a view tells of the turn's reply is what the replica's journal tells.
-use Rattle.std.proofs.Common.{◌≡◌, ℕ, ◌+◌, ◌*◌, ◌<◌, Bool, true, false, not, ◌&&◌, ◌==◌, Some, List, [], ◌∷◌, ◌++◌, refl, ap, sym, ◌∙◌}
-use Rattle.std.proofs.lemmas.Bool.{and_left, eq-eqb, ne_eqb}
+use Rattle.std.proofs.Common.{◌≡◌, ℕ, ◌+◌, ◌*◌, ◌<◌, false, not, ◌==◌, Some, List, [], ◌∷◌, refl, ap, sym, ◌∙◌}
+use Rattle.std.proofs.lemmas.Bool.{eq-eqb, ne_eqb}
 use Rattle.hr_base.specs.Lists.{is_empty, last_of}
 use Rattle.hr_base.proofs.Tests.{and_false}
 use Rattle.hr_engine.specs.Journal.{Ran}

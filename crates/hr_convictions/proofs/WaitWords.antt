@@ -1,12 +1,12 @@
 -- A reply that tells of waits is judged alike by the waits before it and by those after it: they differ in the asker's alone,
 -- and no chain to the asker needs that.
-use Rattle.std.proofs.Common.{◌≡◌, ℕ, Bool, true, false, not, ◌&&◌, ◌==◌, List, [], ◌∷◌, ◌++◌, IsTrue, refl, ap, sym, ◌∙◌}
+use Rattle.std.proofs.Common.{◌≡◌, ℕ, Bool, true, false, not, ◌&&◌, ◌==◌, List, [], ◌∷◌, ◌++◌, refl, ap, sym, ◌∙◌}
 use Rattle.std.specs.List.{list_all}
 use Rattle.std.proofs.lemmas.Bool.{and_parts, eqb-true, eq-eqb}
 use Rattle.hr_base.specs.Lists.{has, is_empty, is_distinct, is_ascending}
 use Rattle.hr_base.proofs.ListLaws.{all_agree_on}
 use Rattle.hr_base.proofs.Tests.{or_false}
-use Rattle.hr_engine.specs.Waits.{is_chain, Leads, is_list_of_running, IsSoundBlocked, is_sound_deadlock}
+use Rattle.hr_engine.specs.Waits.{is_chain, Leads, IsSoundBlocked, is_sound_deadlock}
 
 not_false : (b : Bool) → not b ≡ true → b ≡ false
 not_false true e = cc e

@@ -2,7 +2,7 @@
 ghost use Rattle.std.specs.Prelude.{ℕ, ◌∷◌};
 ghost use Rattle.hr_rel.specs.Database.{Database};
 ghost use Rattle.hr_history.specs.declared.entry.Event.TheVariants.{Convict};
-ghost use Rattle.hr_history.specs.declared.evidence.Evidence.TheVariants.{Differs, BadBlocked, BadDeadlock, BadRestart};
+ghost use Rattle.hr_history.specs.declared.evidence.Evidence.TheVariants.{Contradicted, Differs, BadBlocked, BadDeadlock, BadRestart};
 ghost use Rattle.hr_history.specs.History.{History};
 ghost use Rattle.hr_history.specs.Faithful.{Begun, Correct};
 ghost use Rattle.hr_serial.specs.Serial.{LiarsAreAtMost, AtEachDecide};
@@ -27,4 +27,11 @@ pub fn restart()
 pub fn differs()
     ensures { (f sessions caller r t i : ℕ) (db : Database) (before : History) → Begun f sessions (record { caller = caller; event = Convict r (Differs t i) } ∷ before) → Correct db before r
         → AtEachDecide (LiarsAreAtMost f f db) before → ⊥ }
+{}
+
+/// Where at most f of the 2f + 1 replicas weren't correct until now, no correct primary is convicted because others contradict
+/// an answer of its.
+pub fn contradicted()
+    ensures { (f sessions caller r t i : ℕ) (db : Database) (before : History) → Begun f sessions (record { caller = caller; event = Convict r (Contradicted t i) } ∷ before) → Correct db before r
+        → LiarsAreAtMost f f db before → ⊥ }
 {}

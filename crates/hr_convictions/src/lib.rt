@@ -1,6 +1,7 @@
-//! No correct replica is convicted for a reply that can't be.
+//! No correct replica is convicted, one law for each kind of evidence.
 //!
-//! Each law is the contract of a function that does nothing. None has a premise on how many replicas lie.
+//! Each law is the contract of a function that does nothing. Those of replies that can't be have no premise on how many replicas
+//! lie.
 #![tactic(auto)]
 
 pub mod laws;
