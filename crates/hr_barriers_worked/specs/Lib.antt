@@ -1,0 +1,3 @@
+pub mod OneRow
+pub mod WrongPrimary
+pub mod HonestConvicted

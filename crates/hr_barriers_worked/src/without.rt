@@ -1,0 +1,20 @@
+//! Without a premise.
+ghost use Rattle.hr_barriers_worked.specs.WrongPrimary.{AnswersOtherwise};
+ghost use Rattle.hr_barriers_worked.specs.HonestConvicted.{ConvictsPrimary, ConvictsSecondary};
+
+/// Where the primary lies, what a correct replica answers to the statement isn't the given answer, though the rules are
+/// followed.
+pub fn primary_not_correct()
+    ensures { AnswersOtherwise }
+{}
+
+/// With 2 liars of 3 replicas a correct primary is convicted, since the others contradict it, though the rules are followed.
+pub fn two_contradict()
+    ensures { ConvictsPrimary }
+{}
+
+/// With 2 liars of 3 replicas a correct secondary is convicted, since its answer differs from the accepted one, though the
+/// rules are followed.
+pub fn two_agree()
+    ensures { ConvictsSecondary }
+{}
