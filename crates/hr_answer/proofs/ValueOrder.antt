@@ -16,7 +16,8 @@ use Rattle.hr_rel.specs.contracts.value.ValueOrd.TheImpl.{cmp-value}
 use Rattle.hr_rel.specs.declared.answer.Answer.{Answer}
 use Rattle.hr_rel.specs.declared.answer.Answer.TheVariants.{Rows}
 use Rattle.hr_meaning.specs.SameAnswer.{SameAnswer}
-use Rattle.hr_answer.specs.Canonical.{value_cmp, row_cmp, IsCanonical}
+use Rattle.hr_meaning.specs.Order.{value_cmp, row_cmp}
+use Rattle.hr_answer.specs.Canonical.{IsCanonical}
 use Rattle.hr_answer.proofs.Ascending.{sorted_same}
 
 -- the order that Rust derives for values is the one that is written out by cases

@@ -1,29 +1,8 @@
 -- Answers in canonical form.
-use Rattle.std.specs.Prelude.{List, IsSorted}
-use Rattle.std.specs.Ordering.{int_cmp, nat_cmp}
-use Rattle.std.specs.declared.cmp.Ordering.{Ordering}
-use Rattle.std.specs.declared.cmp.Ordering.TheVariants.{Less, Equal, Greater}
-use Rattle.std.specs.Cmp.Lexicographic.{slice_cmp}
-use Rattle.hr_rel.specs.declared.value.Value.{Value}
-use Rattle.hr_rel.specs.declared.value.Value.TheVariants.{Null, Int, Text}
+use Rattle.std.specs.Prelude.{IsSorted}
 use Rattle.hr_rel.specs.declared.answer.Answer.{Answer}
 use Rattle.hr_rel.specs.declared.answer.Answer.TheVariants.{Rows, Count, Failed}
-
--- the order of values: NULL, then numbers, then texts by their bytes
-abbrev pub value_cmp : Value → Value → Ordering
-value_cmp Null Null = Equal
-value_cmp Null (Int n) = Less
-value_cmp Null (Text t) = Less
-value_cmp (Int m) Null = Greater
-value_cmp (Int m) (Int n) = int_cmp m n
-value_cmp (Int m) (Text t) = Less
-value_cmp (Text s) Null = Greater
-value_cmp (Text s) (Int n) = Greater
-value_cmp (Text s) (Text t) = slice_cmp nat_cmp s t
-
--- the order of rows: the first value that differs decides, and a beginning comes before the whole
-abbrev pub row_cmp : List Value → List Value → Ordering
-row_cmp a b = slice_cmp value_cmp a b
+pub use Rattle.hr_meaning.specs.Order.{row_cmp}
 
 -- an answer's rows, if it has some, are sorted
 abbrev pub IsCanonical : Answer → Type 0

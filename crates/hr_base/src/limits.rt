@@ -15,6 +15,12 @@ pub const MAX_STATEMENTS: u32 = 100;
 /// How many columns a table may have.
 pub const MAX_COLUMNS: usize = 8;
 
+/// How many columns an answer may have.
+pub const MAX_ITEMS: usize = 8;
+
+/// How many rows an answer may have.
+pub const MAX_ROWS: usize = 128;
+
 /// How many bytes a text value may have.
 pub const MAX_TEXT_BYTES: usize = 64;
 

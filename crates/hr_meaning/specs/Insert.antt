@@ -1,18 +1,15 @@
 -- What an INSERT does to the rows of its table.
-use Rattle.std.specs.Prelude.{ℕ, ◌+◌, ℤ, Bool, true, false, not, ◌&&◌, if◌then◌else◌, Option, Some, None, unwrap_or, List, [], ◌∷◌, length, Result, Ok, Err, int_lt, insert, position}
+use Rattle.std.specs.Prelude.{ℕ, ◌+◌, ℤ, Bool, false, if◌then◌else◌, Option, Some, None, unwrap_or, List, [], ◌∷◌, length, Result, Ok, Err, int_lt, insert, position}
 use Rattle.std.specs.Option.{option_map, option_or, option_and_then}
 use Rattle.std.specs.List.{list_any, zip}
 use Rattle.std.specs.Ordering.{int_eq}
 use Rattle.hr_rel.specs.declared.value.Value.{Value}
-use Rattle.hr_rel.specs.declared.value.Value.TheVariants.{Null}
 use Rattle.hr_rel.specs.declared.answer.RunError.{RunError}
 use Rattle.hr_rel.specs.declared.answer.RunError.TheVariants.{DuplicateKey, NullRefused}
 use Rattle.hr_rel.specs.declared.catalog.ColumnDef.{ColumnDef}
 use Rattle.hr_rel.specs.Database.{key_of}
-
-abbrev pub is_null : Value → Bool
-is_null Null = true
-is_null _ = false
+use Rattle.hr_rel.specs.Kinds.{refuses}
+use Rattle.hr_meaning.specs.Value.{and_then}
 
 abbrev pub is_number : ℤ → Option ℤ → Bool
 is_number n None = false
@@ -29,10 +26,6 @@ has_key n row = is_number n (key_of row)
 -- whether the row's key is greater than this number
 abbrev pub comes_after : ℤ → List Value → Bool
 comes_after n row = is_greater n (key_of row)
-
--- whether NULL comes to a column that takes none
-abbrev pub refuses : ColumnDef × Value → Bool
-refuses p = is_null p.1 && not p.0.nullable
 
 -- the first column, counted from 1, that refuses its NULL
 abbrev pub null_refused : List ColumnDef → List Value → Option RunError
@@ -58,10 +51,6 @@ put_row table row = insert table (unwrap_or (option_map (place_for table) (key_o
 abbrev pub unless : {X : Type 0} → Option RunError → X → Result X RunError
 unless None x = Ok x
 unless (Some e) x = Err e
-
-abbrev pub and_then : {X Y : Type 0} → Result X RunError → (X → Result Y RunError) → Result Y RunError
-and_then (Ok x) f = f x
-and_then (Err e) f = Err e
 
 -- the table with one more row, or why not
 abbrev pub with_row : List ColumnDef → List (List Value) → List Value → Result (List (List Value)) RunError

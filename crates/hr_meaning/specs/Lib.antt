@@ -1,3 +1,7 @@
+pub mod Order
+pub mod Truth
+pub mod Value
+pub mod Select
 pub mod Insert
 pub mod Exec
 pub mod Serial

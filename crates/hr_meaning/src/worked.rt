@@ -5,7 +5,6 @@ ghost use Rattle.hr_rel.specs.declared.answer.Answer.TheVariants.{Rows, Count, F
 ghost use Rattle.hr_rel.specs.declared.answer.RunError.TheVariants.{DuplicateKey, NullRefused, Unfit};
 ghost use Rattle.hr_rel.specs.Database.{empty_database};
 ghost use Rattle.hr_meaning.specs.Exec.{exec};
-ghost use Rattle.hr_rel.specs.Point.{point_of};
 ghost use Rattle.hr_meaning.specs.Serial.{play, database_after, database_at, serial_answers};
 ghost use Rattle.hr_meaning.specs.SameAnswer.{SameAnswer};
 ghost use Rattle.hr_meaning.specs.Worked.{catalog_t, holding, row, insert, select_v, one, null_key};

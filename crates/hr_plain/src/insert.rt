@@ -1,11 +1,11 @@
 //! INSERT: one row after another into a copy of the table.
 ghost use Rattle.std.specs.Prelude.{◌≡◌, ◌<◌, ◌≤◌, IfOk, IfSome, OnOk, length, position};
 ghost use Rattle.std.specs.List.{list_any, zip};
-ghost use Rattle.hr_meaning.specs.Insert.{has_key, refuses, null_refused, duplicate_key, insert_error, comes_after, place_for, put_row, inserted};
+ghost use Rattle.hr_rel.specs.Kinds.{refuses};
+ghost use Rattle.hr_meaning.specs.Insert.{has_key, null_refused, duplicate_key, insert_error, comes_after, place_for, put_row, inserted};
 
-use crate::point::{has_key, key_of};
-use hr_base::limits::MAX_COLUMNS;
-use hr_rel::{ColumnDef, Row, RunError, Table, TryCopy, Value};
+use crate::point::has_key;
+use hr_rel::{ColumnDef, Row, RunError, Table, TryCopy, Value, key_of, refuses};
 use std::alloc::{AllocError, Global};
 
 /// The table with the rows in it too, or the first error of a row. The old table stands as it is.
@@ -15,12 +15,11 @@ pub fn inserted(
     table: &Table,
     rows: &[Row],
 ) -> Result<Result<Table, RunError>, AllocError>
-    requires { length columns.now ≤ MAX_COLUMNS }
     ensures { IfOk result (λ outcome. outcome ≡ inserted columns.now table.now rows.now) }
 {
     let mut next = table.try_copy(alloc)?;
     'rows: for row in rows {
-        if let Some(error) = insert_error(columns, next.as_slice(), row) {
+        if let Some(error) = insert_error(columns, next.as_slice(), row)? {
             return Ok(Err(error));
         }
         put_row(&mut next, row.try_copy(alloc)?)?;
@@ -29,23 +28,27 @@ pub fn inserted(
 }
 
 // Why the row can't be inserted: a NULL that is refused comes before a key that is there.
-fn insert_error(columns: &[ColumnDef], table: &[Row], row: &Row) -> Option<RunError>
-    requires { length columns.now ≤ MAX_COLUMNS }
-    ensures { result ≡ insert_error columns.now table.now row.now }
+fn insert_error(
+    columns: &[ColumnDef],
+    table: &[Row],
+    row: &Row,
+) -> Result<Option<RunError>, AllocError>
+    ensures { IfOk result (λ error. error ≡ insert_error columns.now table.now row.now) }
 {
-    match null_refused(columns, row) {
-        Some(error) => Some(error),
-        None => duplicate_key(table, row),
+    match null_refused(columns, row)? {
+        Some(error) => Ok(Some(error)),
+        None => Ok(duplicate_key(table, row)),
     }
 }
 
-fn null_refused(columns: &[ColumnDef], row: &Row) -> Option<RunError>
-    requires { length columns.now ≤ MAX_COLUMNS }
-    ensures { result ≡ null_refused columns.now row.now }
+// Want of memory stands for a place that the error has no room for, of which no table has so many columns.
+fn null_refused(columns: &[ColumnDef], row: &Row) -> Result<Option<RunError>, AllocError>
+    ensures { IfOk result (λ error. error ≡ null_refused columns.now row.now) }
 {
     match first_refusal(columns, row.as_slice()) {
-        Some(at) => Some(RunError::NullRefused(at as u32 + 1)),
-        None => None,
+        Some(at) if at < u32::MAX as usize => Ok(Some(RunError::NullRefused(at as u32 + 1))),
+        Some(_) => Err(AllocError),
+        None => Ok(None),
     }
 }
 
@@ -57,12 +60,6 @@ fn first_refusal(columns: &[ColumnDef], row: &[Value]) -> Option<usize>
         .iter()
         .zip(row)
         .position(|(column, value)| refuses(column, value))
-}
-
-fn refuses(column: &ColumnDef, value: &Value) -> bool
-    ensures { result ≡ refuses (column.now, value.now) }
-{
-    matches!(value, Value::Null) && !column.nullable
 }
 
 fn duplicate_key(table: &[Row], row: &Row) -> Option<RunError>

@@ -1,12 +1,13 @@
-ghost use Rattle.std.specs.Prelude.{◌≡◌, ◌<◌, [], length, slice_get, unwrap_or, IfOk, OnOk, OnErr};
+ghost use Rattle.std.specs.Prelude.{◌≡◌, ◌<◌, [], true, length, slice_get, unwrap_or, IfOk, OnOk, OnErr};
 ghost use Rattle.hr_rel.specs.Database.{empty_database};
-ghost use Rattle.hr_meaning.specs.Exec.{exec, select_outcome, insert_outcome};
-ghost use Rattle.hr_rel.specs.Fit.{fits};
+ghost use Rattle.hr_rel.specs.Fit.{insert_fits};
+ghost use Rattle.hr_meaning.specs.Exec.{exec, meaning};
 
-use crate::fit::{columns_of, insert_fits, point_fits};
 use crate::insert::inserted;
-use crate::point::point_rows;
-use hr_rel::{Answer, Catalog, InsertStmt, Rows, RunError, SelectStmt, Seq, Stmt, Table, TryCopy};
+use crate::point::{point_answer, point_query};
+use hr_rel::{
+    Answer, Catalog, InsertStmt, Row, Rows, RunError, SelectStmt, Seq, Stmt, Table, TryCopy,
+};
 use std::alloc::{AllocError, Global};
 use std::marker::Model;
 
@@ -58,41 +59,40 @@ impl Plain {
     }
 
     /// Runs a statement: the answer and what is left are those of its definition. One that doesn't fit the catalog
-    /// fails as Unfit. Where memory runs out, nothing changes.
+    /// fails as Unfit. Where memory runs out, nothing changes. An UPDATE, a DELETE, and a SELECT that is no point
+    /// query are answered as if it did.
     pub fn run(&mut self, stmt: &Stmt) -> Result<Answer, AllocError>
         ensures answer { IfOk result (λ answer. answer ≡ (exec self.old stmt.now).answer) }
         ensures after { OnOk result (self.new ≡ (exec self.old stmt.now).after) }
         ensures err { OnErr result (self.new ≡ self.old) }
     {
+        if !self.catalog.fits(stmt) {
+            return Ok(Answer::Failed(RunError::Unfit));
+        }
         match stmt {
             Stmt::Select(select) => self.select(select),
             Stmt::Insert(insert) => self.insert(insert),
-            Stmt::Update(_) | Stmt::Delete(_) => Ok(Answer::Failed(RunError::Unfit)),
+            Stmt::Update(_) | Stmt::Delete(_) => Err(AllocError),
         }
     }
 
     fn select(&self, select: &SelectStmt) -> Result<Answer, AllocError>
-        ensures { IfOk result (λ answer. answer ≡ (exec self.now (Stmt.Select select.now)).answer) }
+        ensures { IfOk result (λ answer. answer ≡ (meaning self.now (Stmt.Select select.now)).answer) }
     {
-        match select.point_query() {
-            Some(query) if point_fits(&self.catalog, &query) => {
-                let rows = rows_of(&self.tables, query.table);
-                Ok(Answer::Rows(point_rows(self.alloc, rows.as_slice(), &query)?))
-            }
-            _ => Ok(Answer::Failed(RunError::Unfit)),
-        }
+        let Some(query) = point_query(select) else {
+            return Err(AllocError);
+        };
+        point_answer(self.alloc, rows_of(&self.tables, query.table), &query)
     }
 
     fn insert(&mut self, insert: &InsertStmt) -> Result<Answer, AllocError>
-        ensures answer { IfOk result (λ answer. answer ≡ (exec self.old (Stmt.Insert insert.now)).answer) }
-        ensures after { OnOk result (self.new ≡ (exec self.old (Stmt.Insert insert.now)).after) }
+        requires { insert_fits self.old.catalog insert.now ≡ true }
+        ensures answer { IfOk result (λ answer. answer ≡ (meaning self.old (Stmt.Insert insert.now)).answer) }
+        ensures after { OnOk result (self.new ≡ (meaning self.old (Stmt.Insert insert.now)).after) }
         ensures err { OnErr result (self.new ≡ self.old) }
     {
-        if !insert_fits(&self.catalog, insert) {
-            return Ok(Answer::Failed(RunError::Unfit));
-        }
-        let columns = columns_of(&self.catalog, insert.table);
-        let table = rows_of(&self.tables, insert.table);
+        let columns = self.catalog.columns_of(insert.table);
+        let table = table_of(&self.tables, insert.table);
         match inserted(self.alloc, columns, table, insert.rows.as_slice())? {
             Ok(next) => {
                 self.tables.set(insert.table as usize, next);
@@ -110,11 +110,20 @@ impl Plain {
     }
 }
 
-fn rows_of(tables: &Rows, table: u32) -> &Table
+fn table_of(tables: &Rows, table: u32) -> &Table
     requires { table < length tables.now }
     ensures { unwrap_or (slice_get tables.now table) [] ≡ result.now }
 {
     &tables.as_slice()[table as usize]
+}
+
+fn rows_of(tables: &Rows, table: u32) -> &[Row]
+    ensures { result.now ≡ unwrap_or (slice_get tables.now table) [] }
+{
+    match tables.as_slice().get(table as usize) {
+        Some(rows) => rows.as_slice(),
+        None => &[],
+    }
 }
 
 impl TryCopy for Plain {

@@ -1,5 +1,6 @@
 pub mod Printable
 pub mod Name
 pub mod Database
-pub mod Point
+pub mod Kinds
+pub mod Holds
 pub mod Fit

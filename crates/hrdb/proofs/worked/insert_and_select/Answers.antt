@@ -2,6 +2,7 @@ use Rattle.std.proofs.Common.{pos, ◌∷◌, [], refl, lit≤, rules}
 use Rattle.std.specs.Fmt.{digits}
 use Rattle.hr_scenario.specs.declared.form.Step.TheVariants.{Insert, Select}
 use Rattle.hr_scenario.specs.declared.form.Column.TheVariants.{Value}
+use Rattle.hr_meaning.proofs.Folds.{folds}
 use Rattle.hrdb.specs.Worked.{insert_and_select}
 use Rattle.hrdb.proofs.worked.insert_and_select.Goals as goal
 
@@ -22,4 +23,4 @@ returns-clause-scenario c = record {
 
 pub returns-clause-report : goal.returns-clause-report
 unfolding digits
-returns-clause-report c = refl
+returns-clause-report c = simp folds refl

@@ -2,6 +2,7 @@ use Rattle.std.proofs.Common.{pos, negsuc, ◌∷◌, [], refl, lit≤, rules}
 use Rattle.std.specs.Fmt.{digits}
 use Rattle.hr_scenario.specs.declared.form.Step.TheVariants.{Insert, Select, Commit}
 use Rattle.hr_scenario.specs.declared.form.Column.TheVariants.{Key, Value}
+use Rattle.hr_meaning.proofs.Folds.{folds}
 use Rattle.hrdb.specs.Worked.{one_replica}
 use Rattle.hrdb.proofs.worked.one_replica.Goals as goal
 
@@ -22,4 +23,4 @@ returns-clause-scenario c = record {
 
 pub returns-clause-report : goal.returns-clause-report
 unfolding digits
-returns-clause-report c = refl
+returns-clause-report c = simp folds refl
