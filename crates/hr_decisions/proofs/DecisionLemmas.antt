@@ -33,7 +33,7 @@ kept_by p y ys x false e (inl same) passes rest = absurd (not_both (p y) (ap p (
 kept_by p y ys x false e (inr later) passes rest = rest later
 
 -- a filter keeps what passes
-has_kept : (p : ℕ → Bool) (xs : List ℕ) (x : ℕ) → has xs x ≡ true → p x ≡ true → has (filter p xs) x ≡ true
+pub has_kept : (p : ℕ → Bool) (xs : List ℕ) (x : ℕ) → has xs x ≡ true → p x ≡ true → has (filter p xs) x ≡ true
 has_kept p [] x there passes = there
 has_kept p (y ∷ ys) x there passes = kept_by p y ys x (p y) refl (or_cases (y == x) (has ys x) there) passes (λ later. has_kept p ys x later passes)
 

@@ -1,0 +1,5 @@
+pub mod JobOrder
+pub mod FirstInRank
+pub mod DecideFirst
+pub mod Owed
+pub mod Search

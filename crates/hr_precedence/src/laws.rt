@@ -1,0 +1,51 @@
+//! The laws.
+ghost use Rattle.std.specs.Prelude.{◌≡◌, ℕ, ◌+◌, ◌*◌, ◌<◌, ◌≤◌, Bool, true, false, ◌&&◌, Some, ◌∷◌, length};
+ghost use Rattle.hr_history.specs.declared.cause.CauseAt.TheVariants.{Differ};
+ghost use Rattle.hr_history.specs.declared.entry.Entry.{Entry};
+ghost use Rattle.hr_history.specs.declared.entry.Event.TheVariants.{Convict, Decide, Refuse};
+ghost use Rattle.hr_history.specs.declared.evidence.Evidence.TheVariants.{Contradicted};
+ghost use Rattle.hr_history.specs.declared.job.Job.TheVariants.{Rollback, Run};
+ghost use Rattle.hr_history.specs.declared.phase.Phase.TheVariants.{Asked};
+ghost use Rattle.hr_history.specs.History.{History};
+ghost use Rattle.hr_history.specs.SameAnswers.{same_answers};
+ghost use Rattle.hr_history.specs.Transactions.{begun, phase_of};
+ghost use Rattle.hr_history.specs.Replicas.{journal_of};
+ghost use Rattle.hr_history.specs.Primary.{primary_of, search_after};
+ghost use Rattle.hr_history.specs.Attempts.{is_touched};
+ghost use Rattle.hr_history.specs.View.{view_of};
+ghost use Rattle.hr_history.specs.Processed.{is_whole, answers_in, given_in};
+ghost use Rattle.hr_history.specs.Jobs.{next_in_log};
+ghost use Rattle.hr_history.specs.Words.{IsDecidable, job};
+ghost use Rattle.hr_history.specs.Faithful.{Begun, Faithful};
+ghost use Rattle.hr_records.specs.Numbers.{IsBorn};
+ghost use Rattle.hr_precedence.specs.Ends.{IsFree, HasToEnd};
+
+/// What was refused, rolled back or preempted goes first: as long as something of it is left at a free replica, the replica's
+/// job is a rollback.
+pub fn rollbacks_first()
+    ensures { (f r t : ℕ) (h : History) → r < 2 * f + 1 → IsFree r h → IsBorn (length (begun h)) t → is_touched t (journal_of r h) ≡ true → HasToEnd r t h → (u : ℕ) × (job f h r ≡ Some (Rollback u)) }
+{}
+
+/// A commit goes before a run: where a replica's job is a run, the next transaction of the log isn't whole there with the
+/// accepted answers.
+pub fn commits_before_runs()
+    ensures { (f r t i u : ℕ) (h : History) → job f h r ≡ Some (Run t i) → next_in_log (view_of f h) r ≡ Some u
+        → is_whole (view_of f h) r u && same_answers (answers_in (view_of f h) r u) (given_in (view_of f h) u) ≡ false }
+{}
+
+/// Of several that may be decided, the one whose commit was asked for first is decided.
+pub fn decided_in_the_order_of_asking()
+    ensures { (f sessions caller t u n m : ℕ) (before : History) → Begun f sessions (record { caller = caller; event = Decide t } ∷ before) → IsDecidable f before u → phase_of t before ≡ Asked n → phase_of u before ≡ Asked m → n ≤ m }
+{}
+
+/// After a refusal for the votes the primary is convicted for it, at once.
+pub fn contradiction_convicts()
+    ensures next { (f sessions caller t index by at p : ℕ) (e : Entry) (before : History) → Begun f sessions (e ∷ record { caller = caller; event = Refuse t (Differ index by at) } ∷ before) → primary_of before ≡ Some p
+        → e.event ≡ Convict p (Contradicted t index) }
+    ensures owed { (f sessions caller t index by at p : ℕ) (before : History) → Faithful f sessions (record { caller = caller; event = Refuse t (Differ index by at) } ∷ before) → primary_of before ≡ Some p → ⊥ }
+{}
+
+/// While there is a primary, the search for the next would start with the one after it.
+pub fn search_goes_on_from_the_primary()
+    ensures { (f p : ℕ) (h : History) → primary_of h ≡ Some p → search_after f h ≡ p }
+{}
