@@ -3,3 +3,4 @@ pub mod FirstInRank
 pub mod DecideFirst
 pub mod Owed
 pub mod Search
+pub mod WaitsKept

@@ -1,5 +1,6 @@
 //! The laws.
-ghost use Rattle.std.specs.Prelude.{◌≡◌, ℕ, ◌+◌, ◌*◌, ◌<◌, ◌≤◌, Bool, true, false, ◌&&◌, Some, ◌∷◌, length};
+ghost use Rattle.std.specs.Prelude.{◌≡◌, ℕ, ◌+◌, ◌*◌, ◌<◌, ◌≤◌, Bool, true, false, ◌&&◌, Some, None, [], ◌∷◌, length};
+ghost use Rattle.hr_engine.specs.Waits.{wait, standing};
 ghost use Rattle.hr_history.specs.declared.cause.CauseAt.TheVariants.{Differ};
 ghost use Rattle.hr_history.specs.declared.entry.Entry.{Entry};
 ghost use Rattle.hr_history.specs.declared.entry.Event.TheVariants.{Convict, Decide, Refuse};
@@ -31,6 +32,12 @@ pub fn rollbacks_first()
 pub fn commits_before_runs()
     ensures { (f r t i u : ℕ) (h : History) → job f h r ≡ Some (Run t i) → next_in_log (view_of f h) r ≡ Some u
         → is_whole (view_of f h) r u && same_answers (answers_in (view_of f h) r u) (given_in (view_of f h) u) ≡ false }
+{}
+
+/// Waits are kept: where a replica's job is a run of a transaction, that waits for nobody there, and no cycle of waits stands that
+/// it was told of.
+pub fn waits_are_kept()
+    ensures { (f r t i : ℕ) (h : History) → r < 2 * f + 1 → job f h r ≡ Some (Run t i) → (wait t (journal_of r h) ≡ []) × (standing t (journal_of r h) ≡ None) }
 {}
 
 /// Of several that may be decided, the one whose commit was asked for first is decided.
