@@ -2,6 +2,7 @@
 use Rattle.std.proofs.Common.{◌≡◌, inl, inr, ℕ, ◌+◌, ◌<◌, ◌≤◌, Bool, true, false, ◌&&◌, ◌||◌, ◌==◌, nat_lt, nat_le, Option, Some, None, is_none, not, option_and_then, filter, find, [], ◌∷◌, length, refl, ap, sym, ◌∙◌, arith}
 use Rattle.std.proofs.lemmas.Bool.{and_parts, or_left, lt-ltb, ltb-false}
 use Rattle.hr_base.specs.Lists.{has, last_of, when}
+use Rattle.hr_base.proofs.Tests as tests
 use Rattle.hr_engine.specs.declared.reply.RunReply.{RunReply}
 use Rattle.hr_engine.specs.declared.reply.RunReply.TheVariants as run
 use Rattle.hr_history.specs.declared.cause.CauseAt.TheVariants as cause
@@ -33,7 +34,6 @@ use Rattle.hr_records.proofs.NumberSteps.{not_both}
 use Rattle.hr_records.proofs.KeptLemmas.{kept}
 use Rattle.hr_records.proofs.RuleLemmas.{begun_before, was_due, asked_is_open}
 use Rattle.hr_records.proofs.ViewWords.{open_txn, txn_born, phase_seen}
-use Rattle.hr_decisions.proofs.DecisionLemmas.{has_kept}
 use Rattle.hr_precedence.proofs.FirstInRank.{first_is}
 
 -- WHO IS DECIDED
@@ -129,4 +129,4 @@ asked_first f s c t u n m h b may e d =
     listed w may =
         let asked = (and_parts (is_asked (phase_in (view_of f h) w)) _ may).0 in
         let is = open_txn (view_of f h) w (asked_is_open (phase_in (view_of f h) w) asked) in
-        has_kept (is_decidable (view_of f h)) (txn_numbers (view_of f h)) w (in_range 1 (length (view_of f h).txns) w is.0 (omega (arith, is.1))) may
+        tests.kept (is_decidable (view_of f h)) w (txn_numbers (view_of f h)) may (in_range 1 (length (view_of f h).txns) w is.0 (omega (arith, is.1)))

@@ -4,3 +4,4 @@ pub mod DecideFirst
 pub mod Owed
 pub mod Search
 pub mod WaitsKept
+pub mod GivesWayLemmas

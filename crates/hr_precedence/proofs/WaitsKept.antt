@@ -4,7 +4,7 @@ use Rattle.std.specs.List.{list_any, list_all}
 use Rattle.std.proofs.lemmas.Bool.{and_parts, or_cases, or_left, eqb-true}
 use Rattle.hr_base.specs.Lists.{has, once}
 use Rattle.hr_base.proofs.ListLaws.{has_head, has_tail, has-filter}
-use Rattle.hr_base.proofs.Tests.{or_false}
+use Rattle.hr_base.proofs.Tests.{or_false, in_once, kept, kept_once}
 use Rattle.hr_engine.specs.Journal.{Journal}
 use Rattle.hr_engine.specs.Attempts.{is_running}
 use Rattle.hr_engine.specs.Effects.{effect_of}
@@ -35,14 +35,6 @@ none_any p [] e y there = cc there
 none_any p (x ∷ xs) e y there =
     let both = or_false (p x) (list_any p xs) e in
     elim (or_cases (x == y) (has xs y) there) [ inl same ↦ ap p (sym (eqb-true x y same)) ∙ both.0 | inr later ↦ none_any p xs both.1 y later ]
-
-of_once : (xs : List ℕ) (y : ℕ) → has (once xs) y ≡ true → has xs y ≡ true
-of_once [] y there = there
-of_once (x ∷ xs) y there =
-    elim (or_cases (x == y) (has (filter (λ u. not (u == x)) (once xs)) y) there) [
-      | inl same ↦ or_left (x == y) (has xs y) same
-      | inr later ↦ has_tail y x xs (of_once xs y (has-filter (λ u. not (u == x)) (once xs) y later).1)
-    ]
 
 nothing_by : (p : ℕ → Bool) (x : ℕ) (xs : List ℕ) (b : Bool) → p x ≡ b → b ≡ false → filter p xs ≡ [] → cond b (x ∷ filter p xs) (filter p xs) ≡ []
 nothing_by p x xs true e no_b rest = cc no_b
@@ -76,7 +68,7 @@ goes_on_by v r t i (inl first) = (and_parts (is_open (phase_in v t) && nat_le (p
 goes_on_by v r t i (inr again) =
     (and_parts ((is_open (phase_in v t) || (is_logged (phase_in v t) && not (is_committed v r t))) && is_stamped_by (processed_in v r) (slice_get (txn_in v t).given (length (answers_in v r t)))) (may_go_on v r t) again.1).1
 
-module _ (f r t : ℕ) (h : History) (lt : r < 2 * f + 1) (on : may_go_on (view_of f h) r t ≡ true) where
+module _ (f r t : ℕ) (h : History) (lt : r < 2 * f + 1) where
   abbrev j : Journal
   j = journal_of r h
 
@@ -86,29 +78,36 @@ module _ (f r t : ℕ) (h : History) (lt : r < 2 * f + 1) (on : may_go_on (view_
   runs : (u : ℕ) → runs_in (view_of f h) r u ≡ is_running u (journal_of r h)
   runs u = runs_seen f r u h lt
 
-  parts : (not (list_any (runs_in (view_of f h) r) (wait_in (view_of f h) r t)) ≡ true) × (is_none (standing_in (view_of f h) r t) ≡ true)
-  parts = and_parts (not (list_any (runs_in (view_of f h) r) (wait_in (view_of f h) r t))) (is_none (standing_in (view_of f h) r t)) on
-
-  told : wait_in (view_of f h) r t ≡ named_in (last_told fresh t j)
+  pub told : wait_in (view_of f h) r t ≡ named_in (last_told (is_fresh (fresh_of h) r t) t (journal_of r h))
   told = ap (λ (a : Attempt). named_in a.last) (attempt_lookup f r t h lt)
-
-  none_runs : list_any (λ u. is_running u j) (named_in (last_told fresh t j)) ≡ false
-  none_runs = (λ i. list_any (λ u. sym (runs u) i) (sym told i)) ∙ not_false (list_any (runs_in (view_of f h) r) (wait_in (view_of f h) r t)) parts.0
 
   wait_by : (b : Bool) → list_any (λ u. is_running u j) (named_in (last_told b t j)) ≡ false → wait t j ≡ []
   wait_by true none =
-      sym (wait_of_last true t j) ∙ nothing_left (λ u. is_running u j) (once (named_in (last_told true t j))) (λ y there. none_any (λ u. is_running u j) (named_in (last_told true t j)) none y (of_once (named_in (last_told true t j)) y there))
+      sym (wait_of_last true t j) ∙ nothing_left (λ u. is_running u j) (once (named_in (last_told true t j))) (λ y there. none_any (λ u. is_running u j) (named_in (last_told true t j)) none y (in_once (named_in (last_told true t j)) y there))
   wait_by false none = wait_empty t j (none_any (λ u. is_running u j) (wait t j) (ap (list_any (λ u. is_running u j)) (sym (wait_of_last false t j)) ∙ none))
 
   stands_by : (b : Bool) → option_and_then (if_all (λ u. is_running u j)) (cycle_in (last_told b t j)) ≡ standing t j
   stands_by true = standing_of_last true t j
   stands_by false = ap (option_and_then (if_all (λ u. is_running u j))) (standing_of_last false t j) ∙ stands_again t j
 
-  standing_seen : standing_in (view_of f h) r t ≡ standing t j
+  -- the cycle that a view has is the journal's
+  pub standing_seen : standing_in (view_of f h) r t ≡ standing t (journal_of r h)
   standing_seen = (λ i. option_and_then (if_all (λ u. runs u i)) (cycle_in (attempt_lookup f r t h lt i).last)) ∙ stands_by fresh
 
-  pub kept_by : (wait t (journal_of r h) ≡ []) × (standing t (journal_of r h) ≡ None)
-  kept_by = (wait_by fresh none_runs, sym standing_seen ∙ is_none_of (standing_in (view_of f h) r t) parts.1)
+  -- and who runs and is waited for by the view's waits is by the journal's
+  pub waited_for : (u : ℕ) → is_running u (journal_of r h) ≡ true → has (wait_in (view_of f h) r t) u ≡ true → has (wait t (journal_of r h)) u ≡ true
+  waited_for u running there = by_last fresh (ap (λ l. has l u) (sym told) ∙ there)
+    where
+      by_last : (b : Bool) → has (named_in (last_told b t j)) u ≡ true → has (wait t j) u ≡ true
+      by_last true is = ap (λ l. has l u) (sym (wait_of_last true t j)) ∙ kept (λ w. is_running w j) u (once (named_in (last_told true t j))) running (kept_once (named_in (last_told true t j)) u is)
+      by_last false is = ap (λ l. has l u) (sym (wait_of_last false t j)) ∙ is
+
+  pub kept_by : may_go_on (view_of f h) r t ≡ true → (wait t (journal_of r h) ≡ []) × (standing t (journal_of r h) ≡ None)
+  kept_by on =
+      let parts = and_parts (not (list_any (runs_in (view_of f h) r) (wait_in (view_of f h) r t))) (is_none (standing_in (view_of f h) r t)) on in
+      let none : list_any (λ u. is_running u j) (named_in (last_told fresh t j)) ≡ false =
+      (λ i. list_any (λ u. sym (runs u) i) (sym told i)) ∙ not_false (list_any (runs_in (view_of f h) r) (wait_in (view_of f h) r t)) parts.0 in
+      (wait_by fresh none, sym standing_seen ∙ is_none_of (standing_in (view_of f h) r t) parts.1)
 
 pub waits_kept : (f r t i : ℕ) (h : History) → r < 2 * f + 1 → job_in (view_of f h) r ≡ Some (job.Run t i) → (wait t (journal_of r h) ≡ []) × (standing t (journal_of r h) ≡ None)
 waits_kept f r t i h lt is = kept_by f r t h lt (goes_on_by (view_of f h) r t i ((job_rule (view_of f h) r (job.Run t i) is).rule).2)

@@ -1,9 +1,10 @@
 //! The laws.
-ghost use Rattle.std.specs.Prelude.{◌≡◌, ℕ, ◌+◌, ◌*◌, ◌<◌, ◌≤◌, Bool, true, false, ◌&&◌, Some, None, [], ◌∷◌, length};
+ghost use Rattle.std.specs.Prelude.{◌≡◌, ◌⊎◌, ℕ, ◌+◌, ◌*◌, ◌<◌, ◌≤◌, Bool, true, false, ◌&&◌, Some, None, [], ◌∷◌, length};
+ghost use Rattle.hr_engine.specs.Attempts.{is_running};
 ghost use Rattle.hr_engine.specs.Waits.{wait, standing};
 ghost use Rattle.hr_history.specs.declared.cause.CauseAt.TheVariants.{Differ};
 ghost use Rattle.hr_history.specs.declared.entry.Entry.{Entry};
-ghost use Rattle.hr_history.specs.declared.entry.Event.TheVariants.{Convict, Decide, Refuse};
+ghost use Rattle.hr_history.specs.declared.entry.Event.TheVariants.{Convict, Decide, Preempt, Refuse};
 ghost use Rattle.hr_history.specs.declared.evidence.Evidence.TheVariants.{Contradicted};
 ghost use Rattle.hr_history.specs.declared.job.Job.TheVariants.{Rollback, Run};
 ghost use Rattle.hr_history.specs.declared.phase.Phase.TheVariants.{Asked};
@@ -20,6 +21,7 @@ ghost use Rattle.hr_history.specs.Words.{IsDecidable, job};
 ghost use Rattle.hr_history.specs.Faithful.{Begun, Faithful};
 ghost use Rattle.hr_records.specs.Numbers.{IsBorn};
 ghost use Rattle.hr_precedence.specs.Ends.{IsFree, HasToEnd};
+ghost use Rattle.hr_precedence.specs.GivesWay.{IsInTheWay, IsLastOfCycle};
 
 /// What was refused, rolled back or preempted goes first: as long as something of it is left at a free replica, the replica's
 /// job is a rollback.
@@ -43,6 +45,16 @@ pub fn waits_are_kept()
 /// Of several that may be decided, the one whose commit was asked for first is decided.
 pub fn decided_in_the_order_of_asking()
     ensures { (f sessions caller t u n m : ℕ) (before : History) → Begun f sessions (record { caller = caller; event = Decide t } ∷ before) → IsDecidable f before u → phase_of t before ≡ Asked n → phase_of u before ≡ Asked m → n ≤ m }
+{}
+
+/// Who is preempted at a replica runs there and doesn't have to end anyway, and the replica isn't the primary. It is in the way of
+/// a transaction that is decided or asked and ranks before it, or it is the last in rank of a cycle of waits that stands and of
+/// which none has to end anyway.
+pub fn gives_way()
+    ensures runs { (f sessions caller r t : ℕ) (before : History) → Begun f sessions (record { caller = caller; event = Preempt r t } ∷ before) → is_running t (journal_of r before) ≡ true }
+    ensures stays { (f sessions caller r t : ℕ) (before : History) → Begun f sessions (record { caller = caller; event = Preempt r t } ∷ before) → HasToEnd r t before → ⊥ }
+    ensures secondary { (f sessions caller r t : ℕ) (before : History) → Begun f sessions (record { caller = caller; event = Preempt r t } ∷ before) → primary_of before ≡ Some r → ⊥ }
+    ensures why { (f sessions caller r t : ℕ) (before : History) → Begun f sessions (record { caller = caller; event = Preempt r t } ∷ before) → IsInTheWay f r t before ⊎ IsLastOfCycle f r t before }
 {}
 
 /// After a refusal for the votes the primary is convicted for it, at once.
