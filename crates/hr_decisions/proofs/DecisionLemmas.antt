@@ -28,7 +28,7 @@ use Rattle.hr_base.proofs.Tests.{kept}
 use Rattle.hr_decisions.specs.Groups.{IsGroup}
 
 -- where none ranks first, none passes
-none_passes : (v : View) (p : ℕ → Bool) (t : ℕ) → first_in_rank v (filter p (txn_numbers v)) ≡ None → has (txn_numbers v) t ≡ true → p t ≡ true → ⊥
+pub none_passes : (v : View) (p : ℕ → Bool) (t : ℕ) → first_in_rank v (filter p (txn_numbers v)) ≡ None → has (txn_numbers v) t ≡ true → p t ≡ true → ⊥
 none_passes v p t none there passes =
     let nobody = first_by_none (ranks_before v) (filter p (txn_numbers v)) none in
     not_both (has (filter p (txn_numbers v)) t) (kept p t (txn_numbers v) passes there) (ap (λ xs. has xs t) nobody)

@@ -1,6 +1,6 @@
 pub mod JobOrder
 pub mod FirstInRank
-pub mod DecideFirst
+pub mod ComesFirst
 pub mod Owed
 pub mod Search
 pub mod WaitsKept

@@ -14,10 +14,11 @@ ghost use Rattle.hr_history.specs.Transactions.{begun, phase_of};
 ghost use Rattle.hr_history.specs.Replicas.{journal_of};
 ghost use Rattle.hr_history.specs.Primary.{primary_of, search_after};
 ghost use Rattle.hr_history.specs.Attempts.{is_touched};
+ghost use Rattle.hr_history.specs.Turn.{went};
 ghost use Rattle.hr_history.specs.View.{view_of};
-ghost use Rattle.hr_history.specs.Processed.{is_whole, answers_in, given_in};
+ghost use Rattle.hr_history.specs.Processed.{is_whole, answers_in, given_in, candidate_in, is_caught_up};
 ghost use Rattle.hr_history.specs.Jobs.{next_in_log};
-ghost use Rattle.hr_history.specs.Words.{IsDecidable, job};
+ghost use Rattle.hr_history.specs.Words.{IsDecidable, IsContradicted, job};
 ghost use Rattle.hr_history.specs.Faithful.{Begun, Faithful};
 ghost use Rattle.hr_records.specs.Numbers.{IsBorn};
 ghost use Rattle.hr_precedence.specs.Ends.{IsFree, HasToEnd};
@@ -42,9 +43,21 @@ pub fn waits_are_kept()
     ensures { (f r t i : ℕ) (h : History) → r < 2 * f + 1 → job f h r ≡ Some (Run t i) → (wait t (journal_of r h) ≡ []) × (standing t (journal_of r h) ≡ None) }
 {}
 
-/// Of several that may be decided, the one whose commit was asked for first is decided.
-pub fn decided_in_the_order_of_asking()
-    ensures { (f sessions caller t u n m : ℕ) (before : History) → Begun f sessions (record { caller = caller; event = Decide t } ∷ before) → IsDecidable f before u → phase_of t before ≡ Asked n → phase_of u before ≡ Asked m → n ≤ m }
+/// Of several that may be decided, the one whose commit was asked for first is decided; and of several whose given answers are
+/// contradicted, the one whose commit was asked for first is refused.
+pub fn in_the_order_of_asking()
+    ensures decided { (f sessions caller t u n m : ℕ) (before : History) → Begun f sessions (record { caller = caller; event = Decide t } ∷ before) → IsDecidable f before u → phase_of t before ≡ Asked n → phase_of u before ≡ Asked m → n ≤ m }
+    ensures refused { (f sessions caller t index by at u n m : ℕ) (before : History) → Begun f sessions (record { caller = caller; event = Refuse t (Differ index by at) } ∷ before) → IsContradicted f before u
+        → phase_of t before ≡ Asked n → phase_of u before ≡ Asked m → n ≤ m }
+{}
+
+/// In a turn in which the primary went, nothing is decided. While something may be decided, nothing is refused for the votes. While
+/// there is no primary and the candidate has caught up, nobody is preempted.
+pub fn kinds_in_order()
+    ensures goings { (f sessions caller t : ℕ) (before : History) → Begun f sessions (record { caller = caller; event = Decide t } ∷ before) → went before ≡ None }
+    ensures decisions { (f sessions caller t index by at u : ℕ) (before : History) → Begun f sessions (record { caller = caller; event = Refuse t (Differ index by at) } ∷ before) → IsDecidable f before u → ⊥ }
+    ensures primaries { (f sessions caller r t q : ℕ) (before : History) → Begun f sessions (record { caller = caller; event = Preempt r t } ∷ before) → primary_of before ≡ None → candidate_in (view_of f before) ≡ Some q
+        → is_caught_up (view_of f before) q ≡ true → ⊥ }
 {}
 
 /// Who is preempted at a replica runs there and doesn't have to end anyway, and the replica isn't the primary. It is in the way of
