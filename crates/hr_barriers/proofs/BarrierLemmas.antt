@@ -1,10 +1,8 @@
 -- The barrier theorem: what a correct replica answers to a statement with a stamp is what a correct primary answered.
 use Rattle.std.proofs.Common.{◌≡◌, ◌⊎◌, inl, inr, ⊎_elim, ℕ, zero, suc, ◌+◌, ◌*◌, ◌<◌, ◌≤◌, Bool, true, false, cond, Some, slice_get, take, List, [], ◌∷◌, length, refl, ap, sym, ◌∙◌, subst, arith}
 use Rattle.std.specs.List.{prefix_len}
-use Rattle.std.proofs.lemmas.List.Sorted.{IsPermutation-sym, IsPermutation-trans}
 use Rattle.hr_base.specs.Lists.{numbered}
 use Rattle.hr_rel.specs.declared.answer.Answer.{Answer}
-use Rattle.hr_rel.specs.declared.answer.Answer.TheVariants as answer
 use Rattle.hr_rel.specs.Database.{Database}
 use Rattle.hr_meaning.specs.SameAnswer.{SameAnswer}
 use Rattle.hr_engine.specs.Attempts.{attempt}
@@ -31,6 +29,7 @@ use Rattle.hr_records.proofs.GiveLemmas.{is_given}
 use Rattle.hr_records.proofs.KeptLemmas.{kept}
 use Rattle.hr_barriers.specs.Played.{IsProcessedTo, IsAnswerAsPlayed}
 use Rattle.hr_barriers.specs.Served.{IsServed}
+use Rattle.hr_barriers.proofs.CanonicalLemmas.{both_same}
 use Rattle.hr_barriers.proofs.DoneLemmas.{done, journal_after}
 use Rattle.hr_barriers.proofs.ProcessedLemmas.{held_processed}
 use Rattle.hr_barriers.proofs.StandLemmas.{span_within}
@@ -38,24 +37,6 @@ use Rattle.hr_barriers.proofs.SpanLemmas.{span_grows}
 use Rattle.hr_barriers.proofs.ServedLemmas.{given_on}
 use Rattle.hr_barriers.proofs.WindowLemmas.{Window}
 use Rattle.hr_barriers.proofs.TakenLemmas.{windows, new_by}
-
--- two answers that are each the same as a third are the same
-pub both_same : (a x y : Answer) → SameAnswer a x → SameAnswer a y → SameAnswer x y
-both_same (answer.Rows as') (answer.Rows xs) (answer.Rows ys) e d = IsPermutation-trans xs as' ys (IsPermutation-sym as' xs e) d
-both_same (answer.Count n) (answer.Count x) (answer.Count y) e d = sym e ∙ d
-both_same (answer.Failed n) (answer.Failed x) (answer.Failed y) e d = sym e ∙ d
-both_same (answer.Rows as') (answer.Count x) y e d = absurd e
-both_same (answer.Rows as') (answer.Failed x) y e d = absurd e
-both_same (answer.Rows as') (answer.Rows xs) (answer.Count y) e d = absurd d
-both_same (answer.Rows as') (answer.Rows xs) (answer.Failed y) e d = absurd d
-both_same (answer.Count n) (answer.Rows x) y e d = absurd e
-both_same (answer.Count n) (answer.Failed x) y e d = absurd e
-both_same (answer.Count n) (answer.Count x) (answer.Rows y) e d = absurd d
-both_same (answer.Count n) (answer.Count x) (answer.Failed y) e d = absurd d
-both_same (answer.Failed n) (answer.Rows x) y e d = absurd e
-both_same (answer.Failed n) (answer.Count x) y e d = absurd e
-both_same (answer.Failed n) (answer.Failed x) (answer.Rows y) e d = absurd d
-both_same (answer.Failed n) (answer.Failed x) (answer.Count y) e d = absurd d
 
 -- a front of which each passes is taken
 front_by : (p : ℕ → Bool) (x m : ℕ) (xs : List ℕ) (b : Bool) → b ≡ true → m ≤ length (take (prefix_len p xs) xs) → suc m ≤ length (take (cond b (1 + prefix_len p xs) 0) (x ∷ xs))

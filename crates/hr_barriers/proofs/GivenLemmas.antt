@@ -29,6 +29,7 @@ use Rattle.hr_records.specs.ByRule.{IsElected}
 use Rattle.hr_records.specs.Numbers.{IsBorn}
 use Rattle.hr_records.specs.Kept.{Kept}
 use Rattle.hr_records.proofs.Options.{some_none, same_some}
+use Rattle.hr_records.proofs.PrimaryWords.{other_is}
 use Rattle.hr_records.proofs.Places.{same_or_not}
 use Rattle.hr_records.proofs.Born.{born_or_not}
 use Rattle.hr_records.proofs.NumberSteps.{not_both}
@@ -57,14 +58,6 @@ given_end given g steps s same before =
 if_given : (b : Bool) (xs : List Given) (g : Given) → b ≡ true → (if b then xs ++ g ∷ [] else xs) ≡ xs ++ g ∷ []
 if_given true xs g e = refl
 if_given false xs g e = cc e
-
-other_by : (q p r : ℕ) (b : Bool) → (q == p) ≡ b → (if b then None else Some p) ≡ Some r → (p ≡ r) × ((q == r) ≡ false)
-other_by q p r true e is = absurd (some_none r (sym is))
-other_by q p r false e is = let same = same_some p r is in (same, ap (λ x. q == x) (sym same) ∙ e)
-
-other_is : (q r : ℕ) (o : Option ℕ) → other_than q o ≡ Some r → (o ≡ Some r) × ((q == r) ≡ false)
-other_is q r None e = absurd (some_none r (sym e))
-other_is q r (Some p) e = let is = other_by q p r (q == p) refl e in (ap Some is.0, is.1)
 
 -- who is primary after a reply was it before, and hasn't told of a loss
 still : (b : Bool) (q r : ℕ) (o : Option ℕ) → (if b then other_than q o else o) ≡ Some r → (o ≡ Some r) × (b ≡ true → (q == r) ≡ false)

@@ -11,4 +11,7 @@ pub mod ServedLemmas
 pub mod SpanLemmas
 pub mod WindowLemmas
 pub mod TakenLemmas
+pub mod CanonicalLemmas
 pub mod BarrierLemmas
+pub mod EarlierLemmas
+pub mod EqualLemmas

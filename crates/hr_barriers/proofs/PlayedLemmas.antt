@@ -24,17 +24,13 @@ use Rattle.hr_records.specs.Kept.{Kept}
 use Rattle.hr_records.proofs.Places.{got_more}
 use Rattle.hr_records.proofs.NumberSteps.{same_place}
 use Rattle.hr_records.proofs.Beginnings.{begins_take, map_same_at}
-use Rattle.hr_records.proofs.ViewWords.{phase_seen, position_seen}
+use Rattle.hr_records.proofs.ViewWords.{phase_seen, position_seen, later_place}
 use Rattle.hr_serial.specs.Prefix.{log_statements}
 use Rattle.hr_serial.proofs.Distinct.{distinct_by_places, distinct_tail, zip_last}
 use Rattle.hr_serial.proofs.Processed.{whole_attempt, logged_born}
 use Rattle.hr_serial.proofs.PlayedAt.{serial-end}
 use Rattle.hr_barriers.specs.Played.{IsProcessedTo, IsNoneOfTheFirst, AnswersAsPlayed}
 use Rattle.hr_barriers.proofs.Firsts.{of_first, begins_first, first_short, got_later, map_first, first_pass}
-
-later_place : (p : Phase) (place position : ℕ) → p ≡ phase.Logged place → position < place → is_logged_by position p ≡ true → ⊥
-later_place p place position e lt committed =
-    absurd (omega (arith, lt, leb-true place position (sym (ap (is_logged_by position) e) ∙ committed)))
 
 module _ (f r m t : ℕ) (db : Database) (h : History) (k : Kept h) (lt : r < 2 * f + 1) (rigorous : Rigorous db (journal_of r h)) (to : IsProcessedTo f r m h) (none : IsNoneOfTheFirst m t h) where
   -- those of the first m that aren't committed are whole

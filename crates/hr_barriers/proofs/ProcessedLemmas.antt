@@ -19,22 +19,23 @@ use Rattle.hr_history.specs.Words.{processed_of}
 use Rattle.hr_history.specs.Faithful.{Begun}
 use Rattle.hr_records.specs.Kept.{Kept}
 use Rattle.hr_records.proofs.Options.{some_none, same_some}
+use Rattle.hr_records.proofs.PrimaryWords.{other_is}
 use Rattle.hr_records.proofs.JobWords.{many}
 use Rattle.hr_records.proofs.RuleLemmas.{begun_before, by_rule}
 use Rattle.hr_records.proofs.ViewWords.{phase_seen, statements_seen, answers_seen, position_seen}
 use Rattle.hr_records.proofs.KeptLemmas.{kept}
 use Rattle.hr_serial.proofs.Processed.{logged_born}
 use Rattle.hr_barriers.proofs.WholeWords.{IsHeld}
-use Rattle.hr_barriers.proofs.WholeLemmas.{HoldsAt, holds, other_none}
+use Rattle.hr_barriers.proofs.WholeLemmas.{HoldsAt, holds}
 
 -- THE PRIMARY IS A REPLICA OF THE HALL
 within_by : (f s c r : ℕ) (e : Event) (h : History) → Begun f s (record { caller = c; event = e } ∷ h) → primary_of (record { caller = c; event = e } ∷ h) ≡ Some r → (primary_of h ≡ Some r → r < 2 * f + 1) → r < 2 * f + 1
 within_by f s c r (event.Give q told) h b is rest = rest (still q (tells_loss told) is)
   where
     still : (q : ℕ) (x : Bool) → (if x then other_than q (primary_of h) else primary_of h) ≡ Some r → primary_of h ≡ Some r
-    still q true is = (other_none q r (primary_of h) (q == r) refl is).0
+    still q true is = (other_is q r (primary_of h) is).0
     still q false is = is
-within_by f s c r (event.Convict q x) h b is rest = rest (other_none q r (primary_of h) (q == r) refl is).0
+within_by f s c r (event.Convict q x) h b is rest = rest (other_is q r (primary_of h) is).0
 within_by f s c r event.Suspect h b is rest = absurd (some_none r (sym is))
 within_by f s c r (event.NewPrimary q) h b is rest =
     let rule = by_rule f s record { caller = c; event = event.NewPrimary q } h b refl in

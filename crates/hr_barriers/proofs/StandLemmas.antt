@@ -24,13 +24,13 @@ use Rattle.hr_barriers.specs.Stamps.{span, next_span}
 use Rattle.hr_barriers.proofs.DoneLemmas.{play_front}
 use Rattle.hr_barriers.proofs.StampLemmas.{log_longer}
 
-all_of : {X : Type 0} (xs : List X) → Begins xs xs
+pub all_of : {X : Type 0} (xs : List X) → Begins xs xs
 all_of xs = ([], append-nil xs)
 
-same_begins : {X : Type 0} (xs ys : List X) → ys ≡ xs → Begins xs ys
+pub same_begins : {X : Type 0} (xs ys : List X) → ys ≡ xs → Begins xs ys
 same_begins xs ys e = ([], append-nil xs ∙ sym e)
 
-if_begins : {X : Type 0} (b : Bool) (xs : List X) (x : X) → Begins xs (if b then xs ++ x ∷ [] else xs)
+pub if_begins : {X : Type 0} (b : Bool) (xs : List X) (x : X) → Begins xs (if b then xs ++ x ∷ [] else xs)
 if_begins true xs x = (x ∷ [], refl)
 if_begins false xs x = all_of xs
 

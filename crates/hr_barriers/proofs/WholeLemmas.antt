@@ -31,6 +31,7 @@ use Rattle.hr_records.specs.ByRule.{IsElected, GivesWay, IsJobOf}
 use Rattle.hr_records.specs.Numbers.{IsBorn, IsBalanced}
 use Rattle.hr_records.specs.Kept.{Kept}
 use Rattle.hr_records.proofs.Options.{some_none, same_some}
+use Rattle.hr_records.proofs.PrimaryWords.{other_is}
 use Rattle.hr_records.proofs.Places.{same_or_not, if_other, if_same, numbered_born, numbered_some}
 use Rattle.hr_records.proofs.NumberSteps.{not_both, same_place}
 use Rattle.hr_records.proofs.NumberLemmas.{phase_at_begin, submits_at_begin}
@@ -60,14 +61,6 @@ not_ended p place e is = no_end (sym (ap is_ended e) ∙ is)
 unlogged : (u t : ℕ) (p q : Phase) (place : ℕ) → ((n : ℕ) → p ≡ phase.Logged n → ⊥) → (if u == t then p else q) ≡ phase.Logged place → q ≡ phase.Logged place
 unlogged u t p q place never e = elim (same_or_not u t) [ inl same ↦ absurd (never place (sym (if_same u t p q same) ∙ e)) | inr other ↦ sym (if_other u t p q other) ∙ e ]
 
-pub other_none : (q r : ℕ) (o : Option ℕ) (b : Bool) → (q == r) ≡ b → other_than q o ≡ Some r → (o ≡ Some r) × (b ≡ false)
-other_none q r None b e is = absurd (some_none r (sym is))
-other_none q r (Some p) b e is = by_test (q == p) refl is
-  where
-    by_test : (x : Bool) → (q == p) ≡ x → (if x then None else Some p) ≡ Some r → (Some p ≡ Some r) × (b ≡ false)
-    by_test true d is = absurd (some_none r (sym is))
-    by_test false d is = let same = same_some p r is in (ap Some same, sym e ∙ ap (λ x. q == x) (sym same) ∙ d)
-
 module _ (f s c r : ℕ) (h : History) (k : Kept h) (g : HoldsAt r h) where
   -- WHAT r REPLIES
   abbrev Own : JobReply → Option Call → Type 0
@@ -75,7 +68,7 @@ module _ (f s c r : ℕ) (h : History) (k : Kept h) (g : HoldsAt r h) where
       (λ t. length (attempt t (next_journal call (journal_of r h)))) (λ t. length (submits t h)) (λ t. unless_ended t call (is_preempted r t h)) None
 
   gone : {X : Type 0} → other_than r (primary_of h) ≡ Some r → X
-  gone is = absurd (not_both (r == r) (eq-eqb r r refl) (other_none r r (primary_of h) (r == r) refl is).1)
+  gone is = absurd (not_both (r == r) (eq-eqb r r refl) (other_is r r (primary_of h) is).1)
 
   ran_done : (u i : ℕ) (a : _) → out_at r h ≡ Some (job.Run u i) → Own (reply.Ran (run.Done a)) (Some (Ran u (stmt_at h u i) (run.Done a)))
   ran_done u i a out = replied (λ is t place e. of (same_or_not t u) place e (g.whole is t place e))
@@ -133,7 +126,7 @@ module _ (f s c r : ℕ) (h : History) (k : Kept h) (g : HoldsAt r h) where
       (λ t. unless_ended t (call_if here r told (λ p. out_at p h) (stmt_at h)) (is_preempted r t h)) (if here then None else out_at r h)
 
   still_primary : (q : ℕ) (b : Bool) → (if b then other_than q (primary_of h) else primary_of h) ≡ Some r → primary_of h ≡ Some r
-  still_primary q true is = (other_none q r (primary_of h) (q == r) refl is).0
+  still_primary q true is = (other_is q r (primary_of h) is).0
   still_primary q false is = is
 
   at_give : (q : ℕ) (told : JobReply) (here : Bool) → (q == r) ≡ here → fits_job told (out_at q h) ≡ true → HoldsAt r (record { caller = c; event = event.Give q told } ∷ h)
@@ -245,7 +238,7 @@ module _ (f s c r : ℕ) (h : History) (k : Kept h) (g : HoldsAt r h) where
       let rule = by_rule f s record { caller = c; event = event.Decide txn } h b refl in
       let born = txn_born f txn h rule.0 in
       at_decide txn born (decided_asked f txn h born rule.1)
-  step (event.Convict q x) b = no_other g (other_than q (primary_of h)) (λ is. (other_none q r (primary_of h) (q == r) refl is).0)
+  step (event.Convict q x) b = no_other g (other_than q (primary_of h)) (λ is. (other_is q r (primary_of h) is).0)
   step (event.NewPrimary q) b = at_new q (by_rule f s record { caller = c; event = event.NewPrimary q } h b refl)
   step (event.Preempt q txn) b = at_preempt q txn (by_rule f s record { caller = c; event = event.Preempt q txn } h b refl)
 

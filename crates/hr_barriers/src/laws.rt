@@ -1,11 +1,11 @@
 //! The laws.
-ghost use Rattle.std.specs.Prelude.{◌≡◌, true, ℕ, ◌+◌, ◌*◌, ◌<◌, ◌≤◌, Some, ◌∷◌, length};
+ghost use Rattle.std.specs.Prelude.{◌≡◌, true, ℕ, ◌+◌, ◌*◌, ◌<◌, ◌≤◌, Some, List, ◌∷◌, ◌++◌, length};
 ghost use Rattle.hr_base.specs.Lists.{numbered};
 ghost use Rattle.hr_rel.specs.declared.answer.Answer.{Answer};
 ghost use Rattle.hr_rel.specs.Database.{Database};
-ghost use Rattle.hr_meaning.specs.SameAnswer.{SameAnswer};
 ghost use Rattle.hr_engine.specs.Attempts.{attempt, answers};
 ghost use Rattle.hr_engine.specs.declared.reply.RunReply.TheVariants.{Done};
+ghost use Rattle.hr_history.specs.declared.entry.Entry.{Entry};
 ghost use Rattle.hr_history.specs.declared.entry.Event.TheVariants.{Give};
 ghost use Rattle.hr_history.specs.declared.job.Job.TheVariants.{Run};
 ghost use Rattle.hr_history.specs.declared.job.JobReply.TheVariants.{Ran};
@@ -62,12 +62,21 @@ pub fn given_on()
         → given.stamp ≤ place → place ≤ span t h → IsAnswerAsPlayed db place t i given.answer h }
 {}
 
-/// The barrier theorem: what a correct replica answers to a statement whose answer was given is the same answer, whenever it
-/// is told: at a first run or a later one, before the transaction's end or after. For this who was the primary while the
-/// transaction was open, and had answers, has to be correct as far as then, and the replica as far as this reply. However many
-/// others lie doesn't matter.
+/// An answer that is ever given to a statement has been given once any replica has answered the statement: at that reply, or
+/// before. So what is answered sooner was asked of a transaction that has ended, and no answer is given to it any more.
+pub fn given_by_then()
+    ensures { (f sessions caller r t i : ℕ) (told : Answer) (given : Given) (more : List Entry) (before : History) → Begun f sessions (more ++ record { caller = caller; event = Give r (Ran (Done told)) } ∷ before)
+        → out_at r before ≡ Some (Run t i) → numbered (given_to t (more ++ record { caller = caller; event = Give r (Ran (Done told)) } ∷ before)) i ≡ Some given
+        → numbered (given_to t (record { caller = caller; event = Give r (Ran (Done told)) } ∷ before)) i ≡ Some given }
+{}
+
+/// The barrier theorem: what a correct replica answers to a statement is the answer that was given to it, or ever is, one and
+/// the same; whenever the replica answers: at a first run or a later one, before the transaction's end or after. For this who
+/// was the primary while the transaction was open, and had answers, has to be correct as far as then, and the replica as far as
+/// this reply. However many others lie doesn't matter.
 pub fn barrier()
-    ensures { (f sessions caller r t i : ℕ) (told : Answer) (given : Given) (db : Database) (before : History) → Begun f sessions (record { caller = caller; event = Give r (Ran (Done told)) } ∷ before)
-        → out_at r before ≡ Some (Run t i) → IsServed db t (record { caller = caller; event = Give r (Ran (Done told)) } ∷ before) → Correct db (record { caller = caller; event = Give r (Ran (Done told)) } ∷ before) r
-        → numbered (given_to t (record { caller = caller; event = Give r (Ran (Done told)) } ∷ before)) i ≡ Some given → SameAnswer given.answer told }
+    ensures { (f sessions caller r t i : ℕ) (told : Answer) (given : Given) (db : Database) (more : List Entry) (before : History)
+        → Begun f sessions (more ++ record { caller = caller; event = Give r (Ran (Done told)) } ∷ before) → out_at r before ≡ Some (Run t i)
+        → IsServed db t (record { caller = caller; event = Give r (Ran (Done told)) } ∷ before) → Correct db (record { caller = caller; event = Give r (Ran (Done told)) } ∷ before) r
+        → numbered (given_to t (more ++ record { caller = caller; event = Give r (Ran (Done told)) } ∷ before)) i ≡ Some given → given.answer ≡ told }
 {}

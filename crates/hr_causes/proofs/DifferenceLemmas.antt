@@ -1,5 +1,5 @@
 -- A refusal for the votes: the answers differ first where the cause says, and its place is that of the other answer's Give.
-use Rattle.std.proofs.Common.{◌≡◌, ℕ, zero, suc, ◌+◌, ◌*◌, ◌<◌, ◌≤◌, Bool, true, false, not, ◌&&◌, ◌==◌, nat_le, if◌then◌else◌, Option, Some, None, is_some, is_none, unwrap_or, option_and_then, List, [], ◌∷◌, length, count_by, find, refl, ap, sym, ◌∙◌, subst, arith, IsTrue}
+use Rattle.std.proofs.Common.{◌≡◌, ℕ, zero, suc, ◌+◌, ◌*◌, ◌<◌, ◌≤◌, Bool, true, false, not, ◌&&◌, ◌==◌, nat_le, if◌then◌else◌, Option, Some, None, is_some, is_none, unwrap_or, option_and_then, List, [], ◌∷◌, ◌++◌, length, count_by, find, refl, ap, sym, ◌∙◌, subst, arith, IsTrue}
 use Rattle.std.proofs.lemmas.Bool.{and_parts, eqb-true}
 use Rattle.std.proofs.lemmas.List.{length-map}
 use Rattle.hr_base.specs.Lists.{has, last_of, when, numbered}
@@ -11,6 +11,7 @@ use Rattle.hr_history.specs.declared.cause.CauseAt.TheVariants as cause
 use Rattle.hr_history.specs.declared.entry.Entry.{Entry}
 use Rattle.hr_history.specs.declared.entry.Event.{Event}
 use Rattle.hr_history.specs.declared.entry.Event.TheVariants as event
+use Rattle.hr_history.specs.declared.job.Job.TheVariants as job
 use Rattle.hr_history.specs.declared.job.JobReply.TheVariants as reply
 use Rattle.hr_history.specs.declared.phase.Phase.{Phase}
 use Rattle.hr_history.specs.declared.phase.Phase.TheVariants as phase
@@ -38,7 +39,7 @@ use Rattle.hr_records.specs.Kept.{Kept}
 use Rattle.hr_records.proofs.Options.{On, on_some, when_on, first_on, then_on, map_on, first_of_on, find_has, has_range, same_some}
 use Rattle.hr_records.proofs.Places.{numbered_born, numbered_some}
 use Rattle.hr_records.proofs.NumberSteps.{not_both}
-use Rattle.hr_records.proofs.RuleLemmas.{begun_before, by_rule, was_due}
+use Rattle.hr_records.proofs.RuleLemmas.{begun_before, begun_until, by_rule, was_due}
 use Rattle.hr_records.proofs.ViewWords.{open_seen, phase_seen, given_seen, statements_seen, answers_seen}
 use Rattle.hr_records.proofs.KeptLemmas.{kept}
 use Rattle.hr_causes.specs.Places.{StandsAt}
@@ -249,11 +250,20 @@ module _ (f s c t index by at : ℕ) (h : History) (b : Begun f s (record { call
       ∙ ap (λ (a : Attempt). unwrap_or (numbered a.places index) 0) (attempt_lookup f by t h lt)
       ∙ ap (λ o. unwrap_or o 0) place.1)
 
-  answer_at : AnswerAt by index place.0 (answers_at by t h) h
+  answer_at : AnswerAt by t index place.0 (answers_at by t h) h
   answer_at = (told by t h).placed index place.0 place.1
 
   same_told : answer_at.answer ≡ first.one
   same_told = same_some answer_at.answer first.one (sym answer_at.it ∙ first.in_one)
+
+  -- the statement that was out there is the one with this number
+  is_next : answer_at.index ≡ index
+  is_next =
+      let place = answer_at.stands in
+      let call : Entry = record { caller = place.caller; event = event.Give by (reply.Ran (run.Done answer_at.answer)) } in
+      let whole : Begun f s (place.more ++ call ∷ answer_at.older) = subst (Begun f s) (sym place.whole) (begun_before f s e h b) in
+      let k_older = kept f s answer_at.older (begun_before f s call answer_at.older (begun_until f s place.more (call ∷ answer_at.older) whole)) in
+      omega (arith, (k_older.replicas by).runs t answer_at.index answer_at.out, answer_at.next)
 
   pub difference_shown : IsShownDifference t index by at h
   difference_shown = record {
@@ -266,4 +276,5 @@ module _ (f s c t index by at : ℕ) (h : History) (b : Begun f s (record { call
     older = answer_at.older;
     stands = subst (λ p. StandsAt p (event.Give by (reply.Ran (run.Done first.one))) answer_at.older h) at_place
         (subst (λ a. StandsAt place.0 (event.Give by (reply.Ran (run.Done a))) answer_at.older h) same_told answer_at.stands);
+    out = answer_at.out ∙ ap (λ n. Some (job.Run t n)) is_next;
   }

@@ -21,20 +21,12 @@ use Rattle.hr_records.specs.ByRule.{IsElected}
 use Rattle.hr_records.specs.Numbers.{IsBorn}
 use Rattle.hr_records.specs.Kept.{Kept}
 use Rattle.hr_records.proofs.Options.{some_none, same_some}
-use Rattle.hr_records.proofs.RuleLemmas.{begun_before, by_rule, nothing_due}
+use Rattle.hr_records.proofs.PrimaryWords.{other_is}
+use Rattle.hr_records.proofs.RuleLemmas.{begun_before, begun_until, by_rule, nothing_due}
 use Rattle.hr_records.proofs.KeptLemmas.{kept}
 use Rattle.hr_records.proofs.LeadLemmas.{none_for_gone, refused_all}
 use Rattle.hr_calls.specs.Callers.{AreFollowUps}
 use Rattle.hr_causes.proofs.EndLemmas.{opened_before}
-
-other_by : (q p r : ℕ) (b : Bool) → (q == p) ≡ b → (if b then None else Some p) ≡ Some r → (p ≡ r) × ((q == r) ≡ false)
-other_by q p r true e is = absurd (some_none r (sym is))
-other_by q p r false e is = let same = same_some p r is in (same, ap (λ x. q == x) (sym same) ∙ e)
-
--- the primary that is left is another one, and was it before
-pub other_is : (q r : ℕ) (o : Option ℕ) → other_than q o ≡ Some r → (o ≡ Some r) × ((q == r) ≡ false)
-other_is q r None e = absurd (some_none r (sym e))
-other_is q r (Some p) e = let is = other_by q p r (q == p) refl e in (ap Some is.0, is.1)
 
 if_lost : (b : Bool) (q r : ℕ) (o : Option ℕ) → (if b then other_than q o else o) ≡ Some r → o ≡ Some r
 if_lost true q r o e = (other_is q r o e).0
@@ -134,12 +126,8 @@ since f s (e ∷ more) call h was b are same =
 module _ (f s r t i : ℕ) (more : List Entry) (call : Entry) (h : History) (b : Begun f s (more ++ call ∷ h)) (are : AreFollowUps more)
     (is_a_call : is_call call.event ≡ true) (primary_stays : primary_of (call ∷ h) ≡ primary_of h) (out : out_at r h ≡ Some (job.Run t i))
     (o_now : is_open (phase_of t (more ++ call ∷ h)) ≡ true) (born_now : IsBorn (length (begun (more ++ call ∷ h))) t) (is_now : primary_of (more ++ call ∷ h) ≡ Some r) where
-  begun_of : (more : List Entry) → Begun f s (more ++ call ∷ h) → Begun f s (call ∷ h)
-  begun_of [] b = b
-  begun_of (e ∷ more) b = begun_of more (begun_before f s e (more ++ call ∷ h) b)
-
   b_call : Begun f s (call ∷ h)
-  b_call = begun_of more b
+  b_call = begun_until f s more (call ∷ h) b
 
   k : Kept h
   k = kept f s h (begun_before f s call h b_call)

@@ -23,7 +23,7 @@ use Rattle.hr_records.specs.Numbers.{IsBorn}
 use Rattle.hr_records.proofs.Options.{same_some}
 use Rattle.hr_records.proofs.Allowed.{give_allowed}
 use Rattle.hr_records.proofs.JobWords.{primary_is}
-use Rattle.hr_records.proofs.RuleLemmas.{begun_before, by_rule, was_due}
+use Rattle.hr_records.proofs.RuleLemmas.{begun_before, begun_until, by_rule, was_due}
 use Rattle.hr_records.proofs.ViewWords.{open_seen}
 use Rattle.hr_calls.specs.Callers.{AreFollowUps}
 use Rattle.hr_calls.proofs.PartLemmas.{follow_ups}
@@ -31,10 +31,6 @@ use Rattle.hr_causes.specs.Causes.{PrimaryReplied, IsShownDeadlock, IsShownMemor
 use Rattle.hr_causes.proofs.TurnWords.{FreshReply, fresh_shown}
 use Rattle.hr_causes.proofs.PrimaryLemmas.{unconvicted, primary_then, o_then}
 use Rattle.hr_causes.proofs.DeadlockLemmas.{nobody_convicted, no_evidence, sound_before}
-
-begun_until : (f s : ℕ) (more : List Entry) (h : History) → Begun f s (more ++ h) → Begun f s h
-begun_until f s [] h b = b
-begun_until f s (e ∷ more) h b = begun_until f s more h (begun_before f s e (more ++ h) b)
 
 -- What is seen where a refusal for the primary's reply is due.
 pub record Seen (f t at r : ℕ) (told : RunReply) (h : History) : Type 0 where

@@ -65,7 +65,7 @@ abbrev pub answers_at : ℕ → ℕ → History → List Answer
 answers_at r t h = answers (attempt t (journal_of r h))
 
 -- To the statement with this number the session was given one answer, and the replica gave another, by the Give at this
--- place; the answers to the statements before it are the same.
+-- place, where its job was to run that statement; the answers to the statements before it are the same.
 pub record IsShownDifference (t index by at : ℕ) (h : History) : Type 0 where
   pub given : Answer
   pub told : Answer
@@ -75,6 +75,7 @@ pub record IsShownDifference (t index by at : ℕ) (h : History) : Type 0 where
   pub first : (i : ℕ) → i < index → numbered (answers_at by t h) i ≡ numbered (answers_given (given_to t h)) i
   pub older : History
   pub stands : StandsAt at (event.Give by (reply.Ran (run.Done told))) older h
+  pub out : out_at by older ≡ Some (job.Run t index)
 
 -- the history shows the cause of the transaction's refusal
 abbrev pub IsShown : ℕ → CauseAt → History → Type 0

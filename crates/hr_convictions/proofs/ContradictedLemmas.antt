@@ -38,7 +38,7 @@ use Rattle.hr_barriers.proofs.PlayedLemmas.{played}
 use Rattle.hr_barriers.proofs.GivenLemmas.{given_by_primary}
 use Rattle.hr_barriers.proofs.ProcessedLemmas.{primary_within, primary_processed}
 use Rattle.hr_barriers.proofs.WholeLemmas.{asked_balance}
-use Rattle.hr_convictions.proofs.CanonicalLemmas.{attempt_canonical, given_canonical, equal_by}
+use Rattle.hr_barriers.proofs.CanonicalLemmas.{attempt_canonical, given_canonical, equal_by}
 
 module _ (f s p t : ℕ) (db : Database) (h : History) (b : Begun f s h) (k : Kept h) (lead : primary_of h ≡ Some p) (correct : Correct db h p) (born : IsBorn (length (begun h)) t) (asked : is_asked (phase_of t h) ≡ true) where
   o : is_open (phase_of t h) ≡ true
@@ -61,7 +61,7 @@ module _ (f s p t : ℕ) (db : Database) (h : History) (b : Begun f s h) (k : Ke
       (played f p (length (log h)) t db h k (primary_within f s p h b lead) correct to none))
 
   -- and so are those of a correct replica that is ready
-  ready_equal : (r : ℕ) → r < 2 * f + 1 → Correct db h r → is_ready (view_of f h) t r ≡ true → same_answers (answers_in (view_of f h) r t) (given_in (view_of f h) t) ≡ true
+  pub ready_equal : (r : ℕ) → r < 2 * f + 1 → Correct db h r → is_ready (view_of f h) t r ≡ true → same_answers (answers_in (view_of f h) r t) (given_in (view_of f h) t) ≡ true
   ready_equal r lt its ready =
       let v = view_of f h in
       let two = and_parts (live_in v r && (processed_in v r == length (log h))) (is_whole v r t) ready in

@@ -43,7 +43,7 @@ use Rattle.hr_barriers.proofs.ProcessedLemmas.{held_processed}
 use Rattle.hr_barriers.proofs.BarrierLemmas.{front_taken}
 use Rattle.hr_causes.proofs.TurnWords.{when_some}
 use Rattle.hr_convictions.proofs.EvidenceLemmas.{first_of, then_some, counted, replied}
-use Rattle.hr_convictions.proofs.CanonicalLemmas.{attempt_canonical, given_canonical, equal_by}
+use Rattle.hr_barriers.proofs.CanonicalLemmas.{attempt_canonical, given_canonical, equal_by}
 
 -- WHAT THE EVIDENCE SHOWS
 no_reply : (running : ℕ → Bool) (waits : ℕ → List ℕ) (n t u i : ℕ) (o : Option RunReply) → bad_reply running waits n t o ≡ Some (evidence.Differs u i) → ⊥

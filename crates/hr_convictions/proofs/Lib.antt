@@ -3,7 +3,6 @@ pub mod CountLemmas
 pub mod ReplyWords
 pub mod WaitWords
 pub mod ReplyLemmas
-pub mod CanonicalLemmas
 pub mod DifferLemmas
 pub mod ContradictedLemmas
 pub mod OwedLemmas

@@ -69,7 +69,7 @@ module _ (v : View) (r u i : ℕ) where
       (first_of (differs v r) (bad_waits v r ∷ bad_restart r turn.bad_count ∷ []) (evidence.Contradicted u i) is)
 
 -- WHERE IT IS OWED
-refused_as : (f s c t index by at p : ℕ) (db : Database) (h : History) → Begun f s (record { caller = c; event = event.Refuse t (cause.Differ index by at) } ∷ h) → primary_of h ≡ Some p → Correct db h p → LiarsAreAtMost f f db h → ⊥
+pub refused_as : (f s c t index by at p : ℕ) (db : Database) (h : History) → Begun f s (record { caller = c; event = event.Refuse t (cause.Differ index by at) } ∷ h) → primary_of h ≡ Some p → Correct db h p → LiarsAreAtMost f f db h → ⊥
 refused_as f s c t index by at p db h b lead correct few =
     let v = view_of f h in
     let rule = by_rule f s record { caller = c; event = event.Refuse t (cause.Differ index by at) } h b refl in

@@ -24,24 +24,14 @@ use Rattle.hr_records.proofs.Counts.{shared}
 use Rattle.hr_records.proofs.RuleLemmas.{asked_is_open}
 use Rattle.hr_records.proofs.ViewWords.{open_txn}
 use Rattle.hr_base.proofs.ListLaws.{has-filter}
+use Rattle.hr_base.proofs.Tests.{kept}
 use Rattle.hr_decisions.specs.Groups.{IsGroup}
 
-kept_by : (p : ℕ → Bool) (y : ℕ) (ys : List ℕ) (x : ℕ) (b : Bool) → p y ≡ b → ((y == x) ≡ true) ⊎ (has ys x ≡ true) → p x ≡ true → (has ys x ≡ true → has (filter p ys) x ≡ true) → has (cond b (y ∷ filter p ys) (filter p ys)) x ≡ true
-kept_by p y ys x true e (inl same) passes rest = or_left (y == x) (has (filter p ys) x) same
-kept_by p y ys x true e (inr later) passes rest = or_right (y == x) (has (filter p ys) x) (rest later)
-kept_by p y ys x false e (inl same) passes rest = absurd (not_both (p y) (ap p (eqb-true y x same) ∙ passes) e)
-kept_by p y ys x false e (inr later) passes rest = rest later
-
--- a filter keeps what passes
-has_kept : (p : ℕ → Bool) (xs : List ℕ) (x : ℕ) → has xs x ≡ true → p x ≡ true → has (filter p xs) x ≡ true
-has_kept p [] x there passes = there
-has_kept p (y ∷ ys) x there passes = kept_by p y ys x (p y) refl (or_cases (y == x) (has ys x) there) passes (λ later. has_kept p ys x later passes)
-
 -- where none ranks first, none passes
-none_passes : (v : View) (p : ℕ → Bool) (t : ℕ) → first_in_rank v (filter p (txn_numbers v)) ≡ None → has (txn_numbers v) t ≡ true → p t ≡ true → ⊥
+pub none_passes : (v : View) (p : ℕ → Bool) (t : ℕ) → first_in_rank v (filter p (txn_numbers v)) ≡ None → has (txn_numbers v) t ≡ true → p t ≡ true → ⊥
 none_passes v p t none there passes =
     let nobody = first_by_none (ranks_before v) (filter p (txn_numbers v)) none in
-    not_both (has (filter p (txn_numbers v)) t) (has_kept p (txn_numbers v) t there passes) (ap (λ xs. has xs t) nobody)
+    not_both (has (filter p (txn_numbers v)) t) (kept p t (txn_numbers v) passes there) (ap (λ xs. has xs t) nobody)
 
 module _ (v : View) (turn : Turn) (nothing : due_in v turn ≡ None) where
   no_decision : decide v turn ≡ None

@@ -19,7 +19,7 @@ use Rattle.hr_records.proofs.Places.{numbered_born, numbered_front, numbered_mor
 use Rattle.hr_records.proofs.NumberSteps.{open_unlogged}
 use Rattle.hr_records.proofs.Beginnings.{begins_chain}
 use Rattle.hr_records.proofs.Allowed.{begin_allowed, none_open}
-use Rattle.hr_records.proofs.RuleLemmas.{begun_before}
+use Rattle.hr_records.proofs.RuleLemmas.{begun_before, begun_until}
 use Rattle.hr_records.proofs.KeptLemmas.{kept}
 use Rattle.hr_records.proofs.Closed.{phase_stands}
 use Rattle.hr_decisions.specs.Order.{WasDecided, HasNotBegun, IsLater, AreOf}
@@ -43,10 +43,6 @@ log_grows_by c (event.Preempt r txn) h = ([], append-nil (log h))
 log_grows : (more : List Entry) (h : History) → Begins (log h) (log (more ++ h))
 log_grows [] h = ([], append-nil (log h))
 log_grows (e ∷ more) h = begins_chain (log h) (log (more ++ h)) (log (e ∷ more ++ h)) (log_grows more h) (log_grows_by e.caller e.event (more ++ h))
-
-begun_until : (f s : ℕ) (more : List Entry) (h : History) → Begun f s (more ++ h) → Begun f s h
-begun_until f s [] h b = b
-begun_until f s (e ∷ more) h b = begun_until f s more h (begun_before f s e (more ++ h) b)
 
 -- a place in a list that goes on is one of its beginning, or comes later
 place_or_later : (xs ys all : List ℕ) (p t : ℕ) → xs ++ ys ≡ all → numbered all p ≡ Some t → (numbered xs p ≡ Some t) ⊎ (length xs < p)

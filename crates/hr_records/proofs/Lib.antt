@@ -1,4 +1,5 @@
 pub mod Options
+pub mod PrimaryWords
 pub mod SameEvents
 pub mod RuleLemmas
 pub mod JobLemmas

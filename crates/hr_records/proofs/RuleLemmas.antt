@@ -1,5 +1,5 @@
 -- What follows in a turn stands there by its rule.
-use Rattle.std.proofs.Common.{◌≡◌, inl, inr, ℕ, ◌+◌, ◌*◌, Bool, true, false, not, ◌&&◌, Option, Some, None, is_none, option_and_then, find, filter, [], ◌∷◌, length, refl, ap, arith, IsTrue}
+use Rattle.std.proofs.Common.{◌≡◌, inl, inr, ℕ, ◌+◌, ◌*◌, Bool, true, false, not, ◌&&◌, Option, Some, None, is_none, option_and_then, find, filter, List, [], ◌∷◌, ◌++◌, length, refl, ap, arith, IsTrue}
 use Rattle.std.proofs.lemmas.Bool.{and_parts}
 use Rattle.hr_base.specs.Lists.{has, last_of, when}
 use Rattle.hr_base.proofs.ListLaws.{has-filter}
@@ -186,3 +186,7 @@ module _ (f s : ℕ) (e : Entry) (h : History) (begun : Begun f s (e ∷ h)) whe
 
   pub nothing_due : is_call e.event ≡ true → due f h ≡ None
   nothing_due call = call_next f s (due f h) e h (and_parts (is_begun f s h) _ begun).1 call
+
+pub begun_until : (f s : ℕ) (more : List Entry) (h : History) → Begun f s (more ++ h) → Begun f s h
+begun_until f s [] h b = b
+begun_until f s (e ∷ more) h b = begun_until f s more h (begun_before f s e (more ++ h) b)

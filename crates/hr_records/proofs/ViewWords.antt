@@ -1,16 +1,19 @@
 -- What a view tells of a transaction and a replica is what its history tells.
 use Rattle.std.proofs.Common.{◌≡◌, ℕ, ◌+◌, ◌*◌, ◌<◌, true, Option, Some, None, unwrap_or, length, refl, ap, sym, ◌∙◌, arith}
 use Rattle.std.proofs.lemmas.List.FromFn.{length-map-range_with_len}
+use Rattle.std.proofs.lemmas.Bool.{leb-true}
 use Rattle.hr_base.specs.Lists.{numbered}
 use Rattle.hr_engine.specs.Attempts.{attempt, answers}
 use Rattle.hr_engine.specs.Base.{count, settled}
+use Rattle.hr_history.specs.declared.phase.Phase.{Phase}
+use Rattle.hr_history.specs.declared.phase.Phase.TheVariants as phase
 use Rattle.hr_history.specs.History.{History}
 use Rattle.hr_history.specs.Transactions.{begun, submits, phase_of, is_open}
 use Rattle.hr_history.specs.Replicas.{journal_of}
 use Rattle.hr_history.specs.Given.{given_to}
 use Rattle.hr_history.specs.Attempts.{is_preempted}
 use Rattle.hr_history.specs.View.{View, TxnState, Progress, Attempt, txn_state, view_of}
-use Rattle.hr_history.specs.Processed.{txn_in, phase_in, replica_in, attempt_in, answers_in, unknown_txn}
+use Rattle.hr_history.specs.Processed.{txn_in, phase_in, replica_in, attempt_in, answers_in, is_logged_by, unknown_txn}
 use Rattle.hr_history.proofs.StepLemmas.{replica_lookup, txn_lookup}
 use Rattle.hr_history.proofs.AttemptSteps.{attempt_lookup}
 use Rattle.hr_records.specs.Numbers.{IsBorn}
@@ -35,6 +38,11 @@ given_seen f t h born = ap (λ (x : TxnState). x.given) (txn_seen f t h born)
 
 pub statements_seen : (f t : ℕ) (h : History) → IsBorn (length (begun h)) t → (txn_in (view_of f h) t).statements ≡ length (submits t h)
 statements_seen f t h born = ap (λ (x : TxnState). x.statements) (txn_seen f t h born)
+
+-- a place past what is committed isn't committed
+pub later_place : (p : Phase) (place position : ℕ) → p ≡ phase.Logged place → position < place → is_logged_by position p ≡ true → ⊥
+later_place p place position e lt committed =
+    absurd (omega (arith, lt, leb-true place position (sym (ap (is_logged_by position) e) ∙ committed)))
 
 -- an unknown one counts as refused, so one that is open is there
 open_known : (v : View) (t : ℕ) (o : Option TxnState) → numbered v.txns t ≡ o → is_open (unwrap_or o unknown_txn).phase ≡ true → IsTxn v t

@@ -20,7 +20,7 @@ use Rattle.hr_records.proofs.NumberSteps.{open_unlogged}
 use Rattle.hr_records.proofs.Beginnings.{begins_whole}
 use Rattle.hr_records.proofs.JobWords.{many}
 use Rattle.hr_records.proofs.ReplicaSteps.{statements_many}
-use Rattle.hr_records.proofs.ViewWords.{phase_seen, statements_seen, answers_seen, position_seen}
+use Rattle.hr_records.proofs.ViewWords.{phase_seen, statements_seen, answers_seen, position_seen, later_place}
 
 -- where the test passes of the whole list, it passes of each
 short_take : {X : Type 0} (n : ℕ) (xs : List X) → length (take n xs) ≤ n
@@ -37,10 +37,6 @@ pass_by p x xs false fails le i t e rest = absurd (omega (arith, le))
 pub all_pass : (p : ℕ → Bool) (xs : List ℕ) → length xs ≤ prefix_len p xs → (i t : ℕ) → slice_get xs i ≡ Some t → p t ≡ true
 all_pass p [] all i t e = absurd (some_none t (sym e))
 all_pass p (x ∷ xs) all i t e = pass_by p x xs (p x) refl all i t e (λ le n d. all_pass p xs le n t d)
-
-later_place : (p : Phase) (place position : ℕ) → p ≡ phase.Logged place → position < place → is_logged_by position p ≡ true → ⊥
-later_place p place position e lt committed =
-    absurd (omega (arith, lt, leb-true place position (sym (ap (is_logged_by position) e) ∙ committed)))
 
 pub logged_born : (h : History) → Kept h → (t place : ℕ) → phase_of t h ≡ phase.Logged place → IsBorn (length (begun h)) t
 logged_born h k t place e = elim (born_or_not (length (begun h)) t) [ inl born ↦ born | inr unborn ↦ absurd (open_unlogged phase.Active place refl (sym (k.numbers.unborn t unborn).0 ∙ e)) ]

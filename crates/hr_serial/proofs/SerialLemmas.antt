@@ -104,11 +104,11 @@ serial f s db (e ∷ h) begins few =
     serial_next f s e.caller db e.event h (kept f s h before) begins (serial f s db h before few.0) few.1
 
 -- who is correct in the end was so all along
-rigorous_before : (db : Database) (c : Option Call) (j : Journal) → Rigorous db (next_journal c j) → Rigorous db j
+pub rigorous_before : (db : Database) (c : Option Call) (j : Journal) → Rigorous db (next_journal c j) → Rigorous db j
 rigorous_before db None j rigorous = rigorous
 rigorous_before db (Some call) j rigorous = rigorous.0
 
-fewer_before : (n f : ℕ) (db : Database) (e : Entry) (h : History) → LiarsAreAtMost n f db (e ∷ h) → LiarsAreAtMost n f db h
+pub fewer_before : (n f : ℕ) (db : Database) (e : Entry) (h : History) → LiarsAreAtMost n f db (e ∷ h) → LiarsAreAtMost n f db h
 fewer_before n f db e h few = (few.0, few.1, λ r lt none. rigorous_before db (call_at r e.event h) (journal_of r h) (few.2 r lt none))
 
 pub few_throughout : (f : ℕ) (db : Database) (h : History) → LiarsAreAtMost f f db h → AtEachDecide (LiarsAreAtMost f f db) h

@@ -2,7 +2,9 @@
 use Rattle.std.proofs.Common.{◌≡◌, ℕ, Bool, true, false, ◌&&◌, ◌==◌, if◌then◌else◌, Option, Some, None, List, [], ◌∷◌, ◌++◌, length, refl, ap, sym, ◌∙◌, subst}
 use Rattle.std.specs.List.{AllZip}
 use Rattle.std.proofs.lemmas.Bool.{eqb-true}
+use Rattle.std.proofs.lemmas.List.Sorted.{IsPermutation-sym, IsPermutation-trans}
 use Rattle.hr_rel.specs.declared.answer.Answer.{Answer}
+use Rattle.hr_rel.specs.declared.answer.Answer.TheVariants as answer
 use Rattle.hr_meaning.specs.SameAnswer.{SameAnswer}
 use Rattle.hr_engine.specs.Journal.{Call, Ran, Committed, RolledBack, Restarted, Journal}
 use Rattle.hr_engine.specs.Attempts.{RanStmt, attempt, answers}
@@ -28,7 +30,6 @@ use Rattle.hr_records.proofs.NumberLemmas.{given_at_begin}
 use Rattle.hr_records.proofs.RuleLemmas.{begun_before}
 use Rattle.hr_records.proofs.GiveLemmas.{is_given}
 use Rattle.hr_records.proofs.KeptLemmas.{kept}
-use Rattle.hr_barriers.proofs.BarrierLemmas.{both_same}
 
 abbrev pub AreCanonical : List Answer → Type 0
 AreCanonical [] = Unit {0}
@@ -118,7 +119,7 @@ given_if : (b : Bool) (xs : List Given) (g : Given) → AreCanonical (answers_gi
 given_if true xs g are is = given_more xs g are is
 given_if false xs g are is = are
 
-fits_canonical : (a : Answer) (o : Option Job) → fits_job (reply.Ran (run.Done a)) o ≡ true → is_canonical a ≡ true
+pub fits_canonical : (a : Answer) (o : Option Job) → fits_job (reply.Ran (run.Done a)) o ≡ true → is_canonical a ≡ true
 fits_canonical a (Some (job.Run u i)) fits = fits
 fits_canonical a _ fits = cc fits
 
@@ -144,6 +145,24 @@ given_canonical f s t [] b = tt
 given_canonical f s t (e ∷ h) b = given_by f s e.caller t h (kept f s h (begun_before f s e h b)) (given_canonical f s t h (begun_before f s e h b)) e.event b
 
 -- EQUAL
+-- two answers that are each the same as a third are the same
+pub both_same : (a x y : Answer) → SameAnswer a x → SameAnswer a y → SameAnswer x y
+both_same (answer.Rows as') (answer.Rows xs) (answer.Rows ys) e d = IsPermutation-trans xs as' ys (IsPermutation-sym as' xs e) d
+both_same (answer.Count n) (answer.Count x) (answer.Count y) e d = sym e ∙ d
+both_same (answer.Failed n) (answer.Failed x) (answer.Failed y) e d = sym e ∙ d
+both_same (answer.Rows as') (answer.Count x) y e d = absurd e
+both_same (answer.Rows as') (answer.Failed x) y e d = absurd e
+both_same (answer.Rows as') (answer.Rows xs) (answer.Count y) e d = absurd d
+both_same (answer.Rows as') (answer.Rows xs) (answer.Failed y) e d = absurd d
+both_same (answer.Count n) (answer.Rows x) y e d = absurd e
+both_same (answer.Count n) (answer.Failed x) y e d = absurd e
+both_same (answer.Count n) (answer.Count x) (answer.Rows y) e d = absurd d
+both_same (answer.Count n) (answer.Count x) (answer.Failed y) e d = absurd d
+both_same (answer.Failed n) (answer.Rows x) y e d = absurd e
+both_same (answer.Failed n) (answer.Count x) y e d = absurd e
+both_same (answer.Failed n) (answer.Failed x) (answer.Rows y) e d = absurd d
+both_same (answer.Failed n) (answer.Failed x) (answer.Count y) e d = absurd d
+
 pub equal_by : (zs xs ys : List Answer) → AllZip SameAnswer zs xs → AllZip SameAnswer zs ys → AreCanonical xs → AreCanonical ys → same_answers xs ys ≡ true
 equal_by [] [] [] e d a b = refl
 equal_by (z ∷ zs) (x ∷ xs) (y ∷ ys) e d a b =

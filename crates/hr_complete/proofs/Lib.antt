@@ -1,0 +1,3 @@
+pub mod LedLemmas
+pub mod UnaskedLemmas
+pub mod ReadyLemmas

@@ -1,0 +1,3 @@
+pub mod NotAllCorrect
+pub mod PrimaryLost
+pub mod PrimarySuspected

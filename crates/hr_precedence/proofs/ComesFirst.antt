@@ -1,0 +1,189 @@
+-- What follows comes first of its kind, and none of what comes before its kind is due.
+use Rattle.std.proofs.Common.{◌≡◌, inl, inr, ℕ, ◌+◌, ◌<◌, ◌≤◌, Bool, true, false, ◌&&◌, ◌||◌, ◌==◌, nat_lt, nat_le, Option, Some, None, is_none, not, is_some, option_and_then, filter, find, count_by, [], ◌∷◌, length, refl, ap, sym, ◌∙◌, arith}
+use Rattle.std.proofs.lemmas.Bool.{and_parts, or_left, lt-ltb, ltb-false}
+use Rattle.hr_base.specs.Lists.{has, last_of, when}
+use Rattle.hr_base.proofs.Tests as tests
+use Rattle.hr_engine.specs.declared.reply.RunReply.{RunReply}
+use Rattle.hr_engine.specs.declared.reply.RunReply.TheVariants as run
+use Rattle.hr_history.specs.declared.cause.CauseAt.TheVariants as cause
+use Rattle.hr_history.specs.declared.entry.Entry.{Entry}
+use Rattle.hr_history.specs.declared.entry.Event.{Event}
+use Rattle.hr_history.specs.declared.entry.Event.TheVariants as event
+use Rattle.hr_history.specs.declared.phase.Fresh.{Fresh}
+use Rattle.hr_history.specs.declared.phase.Phase.{Phase}
+use Rattle.hr_history.specs.declared.phase.Phase.TheVariants as phase
+use Rattle.hr_history.specs.History.{History, is_call}
+use Rattle.hr_history.specs.Primary.{primary_of}
+use Rattle.hr_history.specs.ReplicaNumbers.{replica_numbers}
+use Rattle.hr_history.specs.Transactions.{begun, phase_of, is_open, is_asked}
+use Rattle.hr_history.specs.Turn.{Turn, Contradiction, Gone, turn_of, went}
+use Rattle.hr_history.specs.View.{View, view_of}
+use Rattle.hr_history.specs.Processed.{phase_in, replica_in, is_primary, candidate_in, is_caught_up}
+use Rattle.hr_history.specs.Ranks.{rank_of, rank_by, is_before, ranks_before, first_in_rank}
+use Rattle.hr_history.specs.Votes.{agrees, is_decidable, is_contradicted, contradicted_by, difference_at}
+use Rattle.hr_history.specs.Jobs.{txn_numbers}
+use Rattle.hr_history.specs.Preemption.{preempted_next}
+use Rattle.hr_history.specs.Evidence.{evidence_of}
+use Rattle.hr_history.specs.Rules.{convict_with, owed_conviction, conviction_of, convict, refuse_for, primary_gone, cause_by, refuse_after, primary_reply, decide, refuse_as_differ, differ, answer_place, new_primary, preemption_at, preempt, due_in, due}
+use Rattle.hr_history.specs.Words.{IsDecidable, IsContradicted}
+use Rattle.hr_history.specs.Faithful.{Begun}
+use Rattle.hr_records.specs.Numbers.{IsBorn}
+use Rattle.hr_records.specs.Kept.{Kept}
+use Rattle.hr_records.proofs.Options.{On, on_some, when_on, first_on, then_on, map_on, first_of_on, in_range, some_none, none_mapped}
+use Rattle.hr_records.proofs.Born.{born_or_not}
+use Rattle.hr_records.proofs.NumberSteps.{not_both}
+use Rattle.hr_records.proofs.KeptLemmas.{kept, decided_asked}
+use Rattle.hr_records.proofs.RuleLemmas.{begun_before, was_due, by_rule, asked_is_open}
+use Rattle.hr_records.proofs.LeadLemmas.{refused_all}
+use Rattle.hr_records.proofs.ViewWords.{open_txn, txn_born, phase_seen}
+use Rattle.hr_decisions.proofs.DecisionLemmas.{none_passes}
+use Rattle.hr_precedence.proofs.FirstInRank.{first_is}
+
+-- WHAT COMES BEFORE
+-- A decision is of the one that ranks first of those that may be decided, and a refusal for the votes of the one that ranks first
+-- of the contradicted. Nothing is decided while the primary's going is due, nothing refused for the votes while something may
+-- be decided, and nobody preempted while a new primary is due.
+abbrev ComesFirst : View → Turn → Event → Type 0
+ComesFirst v turn (event.Decide t) = (primary_gone v turn ≡ None) × (first_in_rank v (filter (is_decidable v) (txn_numbers v)) ≡ Some t)
+ComesFirst v turn (event.Refuse t (cause.Differ index by at)) = (decide v turn ≡ None) × (first_in_rank v (filter (is_contradicted v) (txn_numbers v)) ≡ Some t)
+ComesFirst v turn (event.Preempt r t) = new_primary v turn ≡ None
+ComesFirst v turn _ = Unit {0}
+
+module _ (v : View) (turn : Turn) where
+  abbrev P : Event → Type 0
+  P e = ComesFirst v turn e
+
+  by_owed : On P (owed_conviction v turn)
+  by_owed = then_on P (convict_with v.primary) turn.owed (λ c owed. of_primary v.primary c)
+    where
+      of_primary : (o : Option ℕ) (c : Contradiction) → On P (convict_with o c)
+      of_primary None c = tt
+      of_primary (Some p) c = tt
+
+  by_evidence : On P (convict v turn)
+  by_evidence = first_of_on P (conviction_of v turn) (replica_numbers v.f) (λ r there.
+      then_on P (λ e. when (not (replica_in v r).convicted) (event.Convict r e)) (evidence_of v r turn) (λ e shown.
+      when_on P (not (replica_in v r).convicted) (event.Convict r e) (λ un. tt)))
+
+  by_gone : On P (primary_gone v turn)
+  by_gone = then_on P (refuse_for v turn) turn.went (λ gone went.
+      map_on P (λ t. event.Refuse t (cause.PrimaryChanged gone.from gone.why gone.at)) (find (λ t. is_open (phase_in v t)) (txn_numbers v)) (λ t found. tt))
+
+  by_reply : On P (primary_reply v turn)
+  by_reply = then_on P (refuse_after v turn) v.fresh (λ fresh is. of_reply fresh (last_of v.replies))
+    where
+      of_reply : (fresh : Fresh) (o : Option RunReply) → On P (option_and_then (λ c. when (is_primary v fresh.replica && is_open (phase_in v fresh.txn)) (event.Refuse fresh.txn c)) (cause_by v turn o))
+      of_reply fresh None = tt
+      of_reply fresh (Some (run.Done answer)) = tt
+      of_reply fresh (Some (run.Blocked named)) = tt
+      of_reply fresh (Some run.Lost) = tt
+      of_reply fresh (Some (run.Deadlock cycle)) = when_on P (is_primary v fresh.replica && is_open (phase_in v fresh.txn)) (event.Refuse fresh.txn (cause.Deadlock turn.start)) (λ both. tt)
+      of_reply fresh (Some run.NoMemory) = when_on P (is_primary v fresh.replica && is_open (phase_in v fresh.txn)) (event.Refuse fresh.txn (cause.PrimaryMemory turn.start)) (λ both. tt)
+
+  by_votes : primary_gone v turn ≡ None → On P (decide v turn)
+  by_votes none = map_on P (λ t. event.Decide t) (first_in_rank v (filter (is_decidable v) (txn_numbers v))) (λ t first. (none, first))
+
+  by_contradiction : decide v turn ≡ None → On P (differ v turn)
+  by_contradiction none = then_on P (refuse_as_differ v turn) (first_in_rank v (filter (is_contradicted v) (txn_numbers v))) (λ t first.
+      map_on P (λ r. event.Refuse t (cause.Differ (difference_at v r t) r (answer_place v turn r t (difference_at v r t)))) (contradicted_by v t) (λ r by. (none, first)))
+
+  by_vacancy : On P (new_primary v turn)
+  by_vacancy = then_on P (λ r. when (is_none v.primary && is_caught_up v r) (event.NewPrimary r)) (candidate_in v) (λ r candidate.
+      when_on P (is_none v.primary && is_caught_up v r) (event.NewPrimary r) (λ both. tt))
+
+  by_waits : new_primary v turn ≡ None → On P (preempt v turn)
+  by_waits none = first_of_on P (preemption_at v turn) (replica_numbers v.f) (λ r there. map_on P (λ t. event.Preempt r t) (preempted_next v r) (λ t next. none))
+
+  due_first : On P (due_in v turn)
+  due_first =
+      first_on P (owed_conviction v turn) _ by_owed (λ a.
+      first_on P (convict v turn) _ by_evidence (λ b.
+      first_on P (primary_gone v turn) _ by_gone (λ c.
+      first_on P (primary_reply v turn) _ by_reply (λ d.
+      first_on P (decide v turn) _ (by_votes c) (λ e.
+      first_on P (differ v turn) _ (by_contradiction e) (λ g.
+      first_on P (new_primary v turn) _ by_vacancy (λ k.
+      first_on P (preempt v turn) [] (by_waits k) (λ l. tt))))))))
+
+follows_first : (f s : ℕ) (e : Entry) (h : History) → Begun f s (e ∷ h) → is_call e.event ≡ false → ComesFirst (view_of f h) (turn_of h) e.event
+follows_first f s e h b n = on_some (ComesFirst (view_of f h) (turn_of h)) (due f h) e.event (was_due f s e h b n) (due_first (view_of f h) (turn_of h))
+
+-- IN THE ORDER OF ASKING
+asked_born : (t : ℕ) (h : History) → Kept h → is_asked (phase_of t h) ≡ true → IsBorn (length (begun h)) t
+asked_born t h k asked = elim (born_or_not (length (begun h)) t) [ inl born ↦ born | inr unborn ↦ absurd (not_both (is_asked (phase_of t h)) asked (ap is_asked (k.numbers.unborn t unborn).0)) ]
+
+asked_later : (p q : Phase) (t u n m : ℕ) → p ≡ phase.Asked n → q ≡ phase.Asked m → (is_before (rank_by q u) (rank_by p t) ≡ true → ⊥) → n ≤ m
+asked_later p q t u n m e d never = by_test (nat_lt m n) refl
+  where
+    first : is_before (rank_by (phase.Asked m) u) (rank_by (phase.Asked n) t) ≡ true → ⊥
+    first is = never ((λ i. is_before (rank_by (d i) u) (rank_by (e i) t)) ∙ is)
+
+    by_test : (b : Bool) → nat_lt m n ≡ b → n ≤ m
+    by_test true lt = absurd (first lt)
+    by_test false le = ltb-false m n le
+
+module _ (f : ℕ) (h : History) (k : Kept h) where
+  seen : (w n : ℕ) → phase_of w h ≡ phase.Asked n → phase_in (view_of f h) w ≡ phase.Asked n
+  seen w n is = phase_seen f w h (asked_born w h k (ap is_asked is)) ∙ is
+
+  -- who is asked is listed
+  listed : (w : ℕ) → is_asked (phase_in (view_of f h) w) ≡ true → has (txn_numbers (view_of f h)) w ≡ true
+  listed w asked =
+      let is = open_txn (view_of f h) w (asked_is_open (phase_in (view_of f h) w) asked) in
+      in_range 1 (length (view_of f h).txns) w is.0 (omega (arith, is.1))
+
+  -- the one that ranks first of those that pass was asked first
+  first_asked : (p : ℕ → Bool) (t u n m : ℕ) → first_in_rank (view_of f h) (filter p (txn_numbers (view_of f h))) ≡ Some t → is_asked (phase_in (view_of f h) u) ≡ true → p u ≡ true → phase_of t h ≡ phase.Asked n
+      → phase_of u h ≡ phase.Asked m → n ≤ m
+  first_asked p t u n m first asked passes e d =
+      asked_later (phase_in (view_of f h) t) (phase_in (view_of f h) u) t u n m (seen t n e) (seen u m d)
+      (first_is (rank_of (view_of f h)) (filter p (txn_numbers (view_of f h))) t first u (tests.kept p u (txn_numbers (view_of f h)) passes (listed u asked)))
+
+  -- where none is decided none may be
+  none_may : (turn : Turn) (u : ℕ) → decide (view_of f h) turn ≡ None → IsDecidable f h u → ⊥
+  none_may turn u none may =
+      let v = view_of f h in
+      let asked = (and_parts (is_asked (phase_in v u)) (nat_le (f + 1) (count_by (agrees v u) (replica_numbers f))) may).0 in
+      none_passes v (is_decidable v) u (none_mapped (λ t. event.Decide t) (first_in_rank v (filter (is_decidable v) (txn_numbers v))) none) (listed u asked) may
+
+pub decided_first : (f s c t u n m : ℕ) (h : History) → Begun f s (record { caller = c; event = event.Decide t } ∷ h) → IsDecidable f h u → phase_of t h ≡ phase.Asked n → phase_of u h ≡ phase.Asked m → n ≤ m
+decided_first f s c t u n m h b may e d =
+    let v = view_of f h in
+    let it : Entry = record { caller = c; event = event.Decide t } in
+    let asked = (and_parts (is_asked (phase_in v u)) (nat_le (f + 1) (count_by (agrees v u) (replica_numbers f))) may).0 in
+    first_asked f h (kept f s h (begun_before f s it h b)) (is_decidable v) t u n m (follows_first f s it h b refl).1 asked may e d
+
+pub contradicted_first : (f s c t index by at u n m : ℕ) (h : History) → Begun f s (record { caller = c; event = event.Refuse t (cause.Differ index by at) } ∷ h) → IsContradicted f h u → phase_of t h ≡ phase.Asked n → phase_of u h ≡ phase.Asked m
+    → n ≤ m
+contradicted_first f s c t index by at u n m h b is e d =
+    let v = view_of f h in
+    let it : Entry = record { caller = c; event = event.Refuse t (cause.Differ index by at) } in
+    let asked = (and_parts (is_asked (phase_in v u)) (is_some (contradicted_by v u)) is).0 in
+    first_asked f h (kept f s h (begun_before f s it h b)) (is_contradicted v) t u n m (follows_first f s it h b refl).1 asked is e d
+
+-- ONE KIND BEFORE ANOTHER
+pub decided_before : (f s c t index by at u : ℕ) (h : History) → Begun f s (record { caller = c; event = event.Refuse t (cause.Differ index by at) } ∷ h) → IsDecidable f h u → ⊥
+decided_before f s c t index by at u h b may =
+    let it : Entry = record { caller = c; event = event.Refuse t (cause.Differ index by at) } in
+    none_may f h (kept f s h (begun_before f s it h b)) (turn_of h) u (follows_first f s it h b refl).0 may
+
+no_gone : (o : Option Gone) → (is_some o ≡ true → ⊥) → o ≡ None
+no_gone None n = refl
+no_gone (Some g) n = absurd (n refl)
+
+pub none_went : (f s c t : ℕ) (h : History) → Begun f s (record { caller = c; event = event.Decide t } ∷ h) → went h ≡ None
+none_went f s c t h b =
+    let it : Entry = record { caller = c; event = event.Decide t } in
+    let rule = by_rule f s it h b refl in
+    let born = txn_born f t h rule.0 in
+    no_gone (went h) (λ gone. refused_all f h (follows_first f s it h b refl).0 gone t born (asked_is_open (phase_of t h) (decided_asked f t h born rule.1)))
+
+pub elected_before : (f s c r t q : ℕ) (h : History) → Begun f s (record { caller = c; event = event.Preempt r t } ∷ h) → primary_of h ≡ None → candidate_in (view_of f h) ≡ Some q → is_caught_up (view_of f h) q ≡ true → ⊥
+elected_before f s c r t q h b vacant candidate caught_up =
+    let it : Entry = record { caller = c; event = event.Preempt r t } in
+    some_none (event.NewPrimary q) (sym due_now ∙ follows_first f s it h b refl)
+  where
+    due_now : new_primary (view_of f h) (turn_of h) ≡ Some (event.NewPrimary q)
+    due_now =
+        ap (option_and_then (λ x. when (is_none (primary_of h) && is_caught_up (view_of f h) x) (event.NewPrimary x))) candidate
+        ∙ (λ i. when (is_none (vacant i) && caught_up i) (event.NewPrimary q))
