@@ -34,7 +34,7 @@ has_put (x ∷ xs) zero t u = or_turn (t == u) (x == u) (has xs u)
 has_put (x ∷ xs) (suc at) t u = or_nest (x == u) (has (take at xs ++ t ∷ drop at xs) u) (has xs u) (t == u) (has_put xs at t u)
 
 -- what stands before an ascending list, if it is less than each
-cons_ascending : (x : ℕ) (ys : List ℕ) → is_ascending ys ≡ true → ((u : ℕ) → has ys u ≡ true → x < u) → is_ascending (x ∷ ys) ≡ true
+pub cons_ascending : (x : ℕ) (ys : List ℕ) → is_ascending ys ≡ true → ((u : ℕ) → has ys u ≡ true → x < u) → is_ascending (x ∷ ys) ≡ true
 cons_ascending x [] a less = refl
 cons_ascending x (y ∷ ys) a less = and_from _ (is_ascending (y ∷ ys)) (lt-ltb x y (less y (has_head y ys))) a
 

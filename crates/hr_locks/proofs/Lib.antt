@@ -5,3 +5,5 @@ mod Links
 mod Unread
 mod Closing
 mod Steps
+mod WaitLemmas
+mod Due

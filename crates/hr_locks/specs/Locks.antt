@@ -1,5 +1,5 @@
 -- What is locked, and whose locks are in whose way.
-use Rattle.std.specs.Prelude.{◌≡◌, ℕ, Bool, true, false, not, ◌&&◌, ◌||◌, ◌==◌, List, [], ◌∷◌, IsTrue}
+use Rattle.std.specs.Prelude.{◌≡◌, ℕ, Bool, true, false, not, ◌&&◌, ◌||◌, ◌==◌, List, map, IsTrue}
 use Rattle.std.specs.List.{list_any}
 use Rattle.hr_base.specs.Lists.{has, is_ascending}
 use Rattle.hr_locks.specs.declared.need.Mode.{Mode}
@@ -13,8 +13,7 @@ is_exclusive Exclusive = true
 
 -- the locks of a transaction that is granted these needs
 abbrev pub locks_on : {N : Type 0} → ℕ → List (Need N) → List (Lock N)
-locks_on txn [] = []
-locks_on txn (need ∷ needs) = record { txn = txn; need = need } ∷ locks_on txn needs
+locks_on txn needs = map (λ need. record { txn = txn; need = need }) needs
 
 -- `meets n m`: the names n and m cover a common item.
 module _ {N : Type 0} (meets : N → N → Bool) where
