@@ -1,0 +1,9 @@
+pub mod Changes
+pub mod Kept
+pub mod Sane
+pub mod Fits
+pub mod Moves
+pub mod Measure
+pub mod TurnSteps
+pub mod Outcomes
+pub mod Callers
