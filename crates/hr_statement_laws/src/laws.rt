@@ -1,0 +1,37 @@
+//! Laws of single statements.
+ghost use Rattle.std.specs.Prelude.{◌≡◌, true, false};
+ghost use Rattle.hr_rel.specs.declared.answer.Answer.TheVariants.{Failed};
+ghost use Rattle.hr_rel.specs.declared.answer.RunError.{RunError};
+ghost use Rattle.hr_rel.specs.declared.answer.RunError.TheVariants.{Unfit};
+ghost use Rattle.hr_rel.specs.declared.stmt.Stmt.{Stmt};
+ghost use Rattle.hr_rel.specs.declared.stmt.Stmt.TheVariants as stmt;
+ghost use Rattle.hr_rel.specs.declared.stmt.SelectStmt.{SelectStmt};
+ghost use Rattle.hr_rel.specs.Database.{Database};
+ghost use Rattle.hr_rel.specs.Fit.{fits};
+ghost use Rattle.hr_meaning.specs.Exec.{exec, failed};
+ghost use Rattle.hr_statement_laws.specs.Sizes.{is_small};
+
+/// No statement changes the catalog.
+pub fn keeps_catalog()
+    ensures { (db : Database) (s : Stmt) → (exec db s).after.catalog ≡ db.catalog }
+{}
+
+/// A statement that fails changes nothing.
+pub fn failure_changes_nothing()
+    ensures { (db : Database) (s : Stmt) (e : RunError) → (exec db s).answer ≡ Failed e → (exec db s).after ≡ db }
+{}
+
+/// A SELECT changes nothing.
+pub fn select_changes_nothing()
+    ensures { (db : Database) (s : SelectStmt) → (exec db (stmt.Select s)).after ≡ db }
+{}
+
+/// A statement that doesn't fit the catalog fails as Unfit, whatever rows there are.
+pub fn unfit_fails()
+    ensures { (db : Database) (s : Stmt) → fits db.catalog s ≡ false → exec db s ≡ failed db Unfit }
+{}
+
+/// An answer has at most 128 rows of at most 8 values.
+pub fn answers_are_small()
+    ensures { (db : Database) (s : Stmt) → is_small (exec db s).answer ≡ true }
+{}
