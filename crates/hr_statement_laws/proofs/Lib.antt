@@ -1,2 +1,4 @@
 pub mod Shape
 pub mod Sizes
+pub mod Ascending
+pub mod Ordered

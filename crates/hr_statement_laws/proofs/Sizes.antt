@@ -65,6 +65,7 @@ few_small row all narrow = by_length (nat_lt MAX_ROWS (length all)) refl
     by_rows within (Ok rows) is =
         let size = each_length row all rows is in
         and_from (nat_le (length rows) MAX_ROWS) (list_all is_narrow rows) (le-leb (length rows) MAX_ROWS (omega (arith, size, within))) (each_all row is_narrow narrow all rows is)
+
     by_length : (b : Bool) → nat_lt MAX_ROWS (length all) ≡ b → is_small (cond b (Failed TooManyRows) (shown (each row all))) ≡ true
     by_length true e = refl
     by_length false e = by_rows (ltb-false MAX_ROWS (length all) e) (each row all) refl

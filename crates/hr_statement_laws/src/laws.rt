@@ -8,6 +8,7 @@ ghost use Rattle.hr_rel.specs.declared.stmt.Stmt.TheVariants as stmt;
 ghost use Rattle.hr_rel.specs.declared.stmt.SelectStmt.{SelectStmt};
 ghost use Rattle.hr_rel.specs.Database.{Database};
 ghost use Rattle.hr_rel.specs.Fit.{fits};
+ghost use Rattle.hr_rel.specs.Holds.{IsOrdered};
 ghost use Rattle.hr_meaning.specs.Exec.{exec, failed};
 ghost use Rattle.hr_statement_laws.specs.Sizes.{is_small};
 
@@ -34,4 +35,9 @@ pub fn unfit_fails()
 /// An answer has at most 128 rows of at most 8 values.
 pub fn answers_are_small()
     ensures { (db : Database) (s : Stmt) → is_small (exec db s).answer ≡ true }
+{}
+
+/// A database in order stays in order.
+pub fn keeps_order()
+    ensures { (db : Database) (s : Stmt) → IsOrdered db → IsOrdered (exec db s).after }
 {}
