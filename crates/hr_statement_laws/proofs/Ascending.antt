@@ -163,7 +163,7 @@ module _ {X : Type 0} (p : X → Bool) (x : X) where
   all_put_by q y ys true e f g h = and_from (q x) (q y && list_all q ys) e (and_from (q y) (list_all q ys) f g)
   all_put_by q y ys false e f g h = and_from (q y) (list_all q (put ys)) f h
 
-  all_put : (q : X → Bool) (ys : List X) → q x ≡ true → list_all q ys ≡ true → list_all q (put ys) ≡ true
+  pub all_put : (q : X → Bool) (ys : List X) → q x ≡ true → list_all q ys ≡ true → list_all q (put ys) ≡ true
   all_put q [] e h = and_from (q x) true e refl
   all_put q (y ∷ ys) e h =
       let parts = and_parts (q y) (list_all q ys) h in

@@ -2,3 +2,5 @@ pub mod Shape
 pub mod Sizes
 pub mod Ascending
 pub mod Ordered
+pub mod Fitting
+pub mod StillHolds

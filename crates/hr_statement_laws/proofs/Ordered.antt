@@ -64,13 +64,13 @@ position_none_by : {X : Type 0} (p : X → Bool) (x : X) (xs : List X) (k : ℕ)
 position_none_by p x xs k false e = refl
 position_none_by p x xs k true e =
     let within : nat_lt 0 (suc (length xs)) ≡ true = lt-ltb 0 (suc (length xs)) (omega arith) in
-    let there : Some 0 ≡ None = sym (ap (λ (b : Bool). cond b (Some 0) None) within) ∙ e in cc
+    let there : ◌≡◌ {A = Option ℕ} (Some 0) None = sym (ap (λ (b : Bool). cond b (Some 0) None) within) ∙ e in cc
 
 -- where no element passes, the first doesn't
-position_none : {X : Type 0} (p : X → Bool) (x : X) (xs : List X) → position p (x ∷ xs) ≡ None → p x ≡ false
+pub position_none : {X : Type 0} (p : X → Bool) (x : X) (xs : List X) → position p (x ∷ xs) ≡ None → p x ≡ false
 position_none p x xs e = position_none_by p x xs (position_or_len p xs) (p x) e
 
-none_by : {X Y : Type 0} (f : X → Y) (o : Option X) → option_map f o ≡ None → o ≡ None
+pub none_by : {X Y : Type 0} (f : X → Y) (o : Option X) → option_map f o ≡ None → o ≡ None
 none_by f None e = refl
 none_by f (Some x) e = cc
 
@@ -103,11 +103,11 @@ key_there (d ∷ columns) (value.Text t ∷ row) e f g =
     let first = and_parts (is_of_kind d.kind (value.Text t)) (list_all (λ (p : ColumnDef × Value). is_of_kind p.0.kind p.1) (zip columns row)) kinds.1 in
     absurd (no_text d.kind t (and_parts (same_kind d.kind kind.Int) (not d.nullable) e).0 first.0)
 
-unless_ok : {X : Type 0} (o : Option RunError) (x next : X) → unless o x ≡ Ok next → (o ≡ None) × (x ≡ next)
+pub unless_ok : {X : Type 0} (o : Option RunError) (x next : X) → unless o x ≡ Ok next → (o ≡ None) × (x ≡ next)
 unless_ok None x next e = (refl, cc)
 unless_ok (Some d) x next e = cc
 
-both_none : (a b : Option RunError) → option_or a b ≡ None → (a ≡ None) × (b ≡ None)
+pub both_none : (a b : Option RunError) → option_or a b ≡ None → (a ≡ None) × (b ≡ None)
 both_none None b e = (refl, e)
 both_none (Some d) b e = cc
 

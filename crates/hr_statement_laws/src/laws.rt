@@ -8,7 +8,7 @@ ghost use Rattle.hr_rel.specs.declared.stmt.Stmt.TheVariants as stmt;
 ghost use Rattle.hr_rel.specs.declared.stmt.SelectStmt.{SelectStmt};
 ghost use Rattle.hr_rel.specs.Database.{Database};
 ghost use Rattle.hr_rel.specs.Fit.{fits};
-ghost use Rattle.hr_rel.specs.Holds.{IsOrdered};
+ghost use Rattle.hr_rel.specs.Holds.{holds, IsSound, IsOrdered};
 ghost use Rattle.hr_meaning.specs.Exec.{exec, failed};
 ghost use Rattle.hr_statement_laws.specs.Sizes.{is_small};
 
@@ -40,4 +40,10 @@ pub fn answers_are_small()
 /// A database in order stays in order.
 pub fn keeps_order()
     ensures { (db : Database) (s : Stmt) → IsOrdered db → IsOrdered (exec db s).after }
+{}
+
+/// Rows that fit a sound catalog are in order, and go on to fit it, whatever statement runs.
+pub fn keeps_fitting()
+    ensures ordered { (db : Database) → IsSound db.catalog → holds db.catalog db.tables ≡ true → IsOrdered db }
+    ensures keeps { (db : Database) (s : Stmt) → IsSound db.catalog → holds db.catalog db.tables ≡ true → holds (exec db s).after.catalog (exec db s).after.tables ≡ true }
 {}
