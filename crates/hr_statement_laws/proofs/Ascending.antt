@@ -1,15 +1,15 @@
 -- Rows in order, as a fact by recursion, and what keeps it.
-use Rattle.std.proofs.Common.{◌≡◌, ℕ, zero, suc, ◌+◌, ◌≤◌, ℤ, pos, negsuc, Bool, true, false, ◌&&◌, ◌||◌, cond, not, nat_lt, length, List, [], ◌∷◌, ◌++◌, filter, take, drop, refl, ap, sym, ◌∙◌, arith, lt-ltb, ltb-true, ltb-false, is_eq}
+use Rattle.std.proofs.Common.{◌≡◌, ℕ, suc, ◌+◌, ◌≤◌, ℤ, pos, negsuc, Bool, true, false, ◌&&◌, ◌||◌, cond, not, nat_lt, length, List, [], ◌∷◌, filter, refl, ap, sym, ◌∙◌, arith, lt-ltb, ltb-true, ltb-false, is_eq}
 use Rattle.std.specs.Prelude.{Option, Some, None, int_lt, insert, position, unwrap_or}
-use Rattle.std.specs.Ordering.{int_cmp, int_eq}
+use Rattle.std.specs.Ordering.{int_eq}
 use Rattle.std.specs.declared.cmp.Ordering.TheVariants.{Less, Equal, Greater}
-use Rattle.std.specs.List.{list_all, list_any, zip, position_or_len, prefix_len}
+use Rattle.std.specs.List.{list_all, list_any, zip, position_or_len}
 use Rattle.std.proofs.lemmas.Bool.{and_from, and_parts}
 use Rattle.hr_rel.specs.declared.value.Value.{Value}
 use Rattle.hr_rel.specs.Database.{key_of}
 use Rattle.hr_rel.specs.Kinds.{fits_i64}
 use Rattle.hr_rel.specs.Holds.{is_key, has_number_key, is_below, ascends, is_ordered}
-use Rattle.hr_meaning.specs.Insert.{is_number, is_greater, has_key, comes_after, place_for}
+use Rattle.hr_meaning.specs.Insert.{is_number, is_greater, has_key, comes_after}
 
 -- ---- numbers
 

@@ -1,16 +1,13 @@
 -- Rows that fit their catalog go on to fit it.
-use Rattle.std.proofs.Common.{◌≡◌, ℕ, zero, suc, ◌+◌, ◌<◌, ◌≤◌, ◌==◌, ℤ, ◌+ℤ◌, ◌-ℤ◌, ◌*ℤ◌, Bool, true, false, ◌&&◌, ◌||◌, cond, not, nat_lt, length, List, [], ◌∷◌, map, filter, refl, ap, sym, subst, ◌∙◌, arith, lt-ltb, ltb-true, le-ltb, ltb-false, eqb-true, eq-eqb}
-use Rattle.std.specs.Prelude.{Option, Some, None, Result, Ok, Err, insert, position, unwrap_or, slice_get, slice_set}
-use Rattle.std.specs.Option.{option_map, option_or, option_and_then}
-use Rattle.std.specs.List.{list_all, list_any, zip, position_or_len}
+use Rattle.std.proofs.Common.{◌≡◌, ℕ, zero, suc, ◌+◌, ◌==◌, ℤ, ◌+ℤ◌, ◌-ℤ◌, ◌*ℤ◌, Bool, true, false, ◌&&◌, ◌||◌, cond, not, nat_lt, length, List, [], ◌∷◌, refl, ap, sym, subst, ◌∙◌}
+use Rattle.std.specs.Prelude.{Option, Some, None, Result, Ok, Err, unwrap_or, slice_get, slice_set}
+use Rattle.std.specs.Option.{option_map}
+use Rattle.std.specs.List.{list_all, list_any, zip}
 use Rattle.std.proofs.lemmas.Bool.{and_from, and_parts}
-use Rattle.hr_base.specs.Lists.{is_empty}
 use Rattle.hr_rel.specs.declared.value.Value.{Value}
 use Rattle.hr_rel.specs.declared.value.Value.TheVariants as value
 use Rattle.hr_rel.specs.declared.answer.RunError.{RunError}
 use Rattle.hr_rel.specs.declared.answer.RunError.TheVariants.{NullRefused, Overflow}
-use Rattle.hr_rel.specs.declared.catalog.Catalog.{Catalog}
-use Rattle.hr_rel.specs.declared.catalog.TableDef.{TableDef}
 use Rattle.hr_rel.specs.declared.catalog.ColumnDef.{ColumnDef}
 use Rattle.hr_rel.specs.declared.catalog.ColKind.{ColKind}
 use Rattle.hr_rel.specs.declared.catalog.ColKind.TheVariants as kind
@@ -20,11 +17,11 @@ use Rattle.hr_rel.specs.declared.expr.Expr.TheVariants as expr
 use Rattle.hr_rel.specs.declared.expr.Expr.TheOpen.{Expr-F}
 use Rattle.hr_rel.specs.declared.stmt.Set.{Set}
 use Rattle.hr_rel.specs.declared.stmt.UpdateStmt.{UpdateStmt}
-use Rattle.hr_rel.specs.Kinds.{fits_i64, same_kind, is_of_kind, is_null, refuses}
+use Rattle.hr_rel.specs.Kinds.{fits_i64, same_kind, is_of_kind, refuses}
 use Rattle.hr_rel.specs.Holds.{row_fits, row_holds}
 use Rattle.hr_rel.specs.Fit.{Entries, Kind, literal_kind, column_kind, is_number, number_kind, agree, both_agree, expr_kind, set_fits}
 use Rattle.hr_meaning.specs.Truth.{Tuple, column_value, is_kept}
-use Rattle.hr_meaning.specs.Value.{and_then, each, number, combined, operation, value_of}
+use Rattle.hr_meaning.specs.Value.{and_then, combined, operation, value_of}
 use Rattle.hr_meaning.specs.Exec.{taken, set_value, assigned, updated}
 use Rattle.hr_meaning.proofs.Folds.{value_lit, value_col, value_add, value_sub, value_mul, kind_lit, kind_col, kind_add, kind_sub, kind_mul}
 

@@ -4,3 +4,4 @@ pub mod Ascending
 pub mod Ordered
 pub mod Fitting
 pub mod StillHolds
+pub mod AnyOrder

@@ -1,5 +1,5 @@
 -- A database in order stays in order.
-use Rattle.std.proofs.Common.{◌≡◌, ℕ, zero, suc, ◌+◌, ◌<◌, ◌==◌, ℤ, Bool, true, false, ◌&&◌, ◌||◌, cond, not, nat_lt, length, List, [], ◌∷◌, map, filter, refl, ap, sym, subst, ◌∙◌, arith, lt-ltb, ltb-true, eqb-true}
+use Rattle.std.proofs.Common.{◌≡◌, ℕ, zero, suc, ◌+◌, ◌==◌, ℤ, Bool, true, false, ◌&&◌, cond, not, nat_lt, length, List, [], ◌∷◌, refl, ap, sym, subst, ◌∙◌, arith, lt-ltb, ltb-true, eqb-true}
 use Rattle.std.specs.Prelude.{Option, Some, None, Result, Ok, Err, insert, position, unwrap_or, slice_get, slice_set}
 use Rattle.std.specs.Option.{option_map, option_or, option_and_then}
 use Rattle.std.specs.List.{list_all, list_any, zip, position_or_len}
@@ -8,8 +8,7 @@ use Rattle.hr_base.specs.Lists.{is_empty}
 use Rattle.hr_rel.specs.declared.value.Value.{Value}
 use Rattle.hr_rel.specs.declared.value.Value.TheVariants as value
 use Rattle.hr_rel.specs.declared.answer.RunError.{RunError}
-use Rattle.hr_rel.specs.declared.answer.RunError.TheVariants.{NullRefused, DuplicateKey, Unfit}
-use Rattle.hr_rel.specs.declared.catalog.Catalog.{Catalog}
+use Rattle.hr_rel.specs.declared.answer.RunError.TheVariants.{NullRefused, DuplicateKey}
 use Rattle.hr_rel.specs.declared.catalog.TableDef.{TableDef}
 use Rattle.hr_rel.specs.declared.catalog.ColumnDef.{ColumnDef}
 use Rattle.hr_rel.specs.declared.catalog.ColKind.{ColKind}
@@ -19,14 +18,14 @@ use Rattle.hr_rel.specs.declared.stmt.Stmt.{Stmt}
 use Rattle.hr_rel.specs.declared.stmt.Stmt.TheVariants as stmt
 use Rattle.hr_rel.specs.declared.stmt.InsertStmt.{InsertStmt}
 use Rattle.hr_rel.specs.declared.stmt.UpdateStmt.{UpdateStmt}
-use Rattle.hr_rel.specs.Database.{Database, columns_of, rows_of, with_rows, key_of}
+use Rattle.hr_rel.specs.Database.{Database, columns_of, rows_of, key_of}
 use Rattle.hr_rel.specs.Kinds.{fits_i64, same_kind, is_of_kind, refuses}
-use Rattle.hr_rel.specs.Holds.{row_fits, has_key_column, is_ordered, IsSound, IsOrdered}
+use Rattle.hr_rel.specs.Holds.{row_fits, has_key_column, is_ordered, IsOrdered}
 use Rattle.hr_rel.specs.Fit.{Entries, entries_of, has_table, column_kind, both_agree, expr_kind, filter_fits, set_fits, assign_apart, fits}
 use Rattle.hr_meaning.specs.Truth.{is_kept}
 use Rattle.hr_meaning.specs.Value.{and_then, each}
 use Rattle.hr_meaning.specs.Insert.{has_key, comes_after, null_refused, duplicate_key, insert_error, put_row, unless, with_row, inserted, place_for}
-use Rattle.hr_meaning.specs.Exec.{exec, meaning, failed, changed, set_value, assigned, updated, other_rows}
+use Rattle.hr_meaning.specs.Exec.{exec, meaning, changed, set_value, assigned, updated, other_rows}
 use Rattle.hr_statement_laws.proofs.Shape.{by_fit}
 use Rattle.hr_statement_laws.proofs.Ascending.{Ascending, from_test, to_test, filtered, SameKeys, with_same_keys, put, put_is, put_ascends}
 

@@ -1,6 +1,6 @@
 -- What every statement leaves as it is.
 use Rattle.std.proofs.Common.{◌≡◌, ℕ, Bool, true, false, cond, List, refl, ap}
-use Rattle.std.specs.Prelude.{Result, Ok, Err, IsTrue}
+use Rattle.std.specs.Prelude.{Result, Ok, Err}
 use Rattle.hr_rel.specs.declared.value.Value.{Value}
 use Rattle.hr_rel.specs.declared.answer.Answer.TheVariants.{Failed}
 use Rattle.hr_rel.specs.declared.answer.RunError.{RunError}

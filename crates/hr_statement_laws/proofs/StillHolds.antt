@@ -1,7 +1,7 @@
 -- Rows that fit their catalog do so after every statement.
-use Rattle.std.proofs.Common.{◌≡◌, ℕ, zero, suc, ◌+◌, ◌<◌, ◌≤◌, ◌==◌, ℤ, Bool, true, false, ◌&&◌, ◌||◌, cond, not, nat_lt, length, List, [], ◌∷◌, map, filter, refl, ap, sym, subst, ◌∙◌, arith, lt-ltb, ltb-true, le-ltb, ltb-false, eqb-true, eq-eqb}
+use Rattle.std.proofs.Common.{◌≡◌, ℕ, zero, suc, ◌+◌, ◌==◌, ℤ, Bool, true, false, ◌&&◌, cond, not, nat_lt, length, List, [], ◌∷◌, refl, ap, sym, ◌∙◌, arith, lt-ltb, ltb-true, eqb-true}
 use Rattle.std.specs.Prelude.{Option, Some, None, Result, Ok, Err, insert, position, unwrap_or, slice_get, slice_set}
-use Rattle.std.specs.Option.{option_map, option_or}
+use Rattle.std.specs.Option.{option_map}
 use Rattle.std.specs.List.{list_all, list_any, zip, position_or_len}
 use Rattle.std.proofs.lemmas.Bool.{and_from, and_parts}
 use Rattle.hr_base.specs.Lists.{is_empty}
@@ -22,11 +22,11 @@ use Rattle.hr_rel.specs.Fit.{entries_of, has_table, filter_fits, set_fits, assig
 use Rattle.hr_meaning.specs.Truth.{is_kept}
 use Rattle.hr_meaning.specs.Value.{and_then, each}
 use Rattle.hr_meaning.specs.Insert.{null_refused, duplicate_key, insert_error, put_row, with_row, inserted, place_for, comes_after}
-use Rattle.hr_meaning.specs.Exec.{Outcome, exec, meaning, failed, changed, updated, other_rows}
+use Rattle.hr_meaning.specs.Exec.{exec, meaning, changed, updated, other_rows}
 use Rattle.hr_statement_laws.proofs.Shape.{by_fit, keeps_catalog}
 use Rattle.hr_statement_laws.proofs.Ascending.{put, put_is, all_put, all_filtered}
 use Rattle.hr_statement_laws.proofs.Ordered.{unless_ok, both_none, none_by, position_none, keeps_order}
-use Rattle.hr_statement_laws.proofs.Fitting.{updated_holds, not_true, nor, size_set}
+use Rattle.hr_statement_laws.proofs.Fitting.{updated_holds, nor, size_set}
 
 -- ---- INSERT
 

@@ -1,5 +1,5 @@
 //! Laws of single statements.
-ghost use Rattle.std.specs.Prelude.{◌≡◌, true, false};
+ghost use Rattle.std.specs.Prelude.{◌≡◌, true, false, List, IsPermutation};
 ghost use Rattle.hr_rel.specs.declared.answer.Answer.TheVariants.{Failed};
 ghost use Rattle.hr_rel.specs.declared.answer.RunError.{RunError};
 ghost use Rattle.hr_rel.specs.declared.answer.RunError.TheVariants.{Unfit};
@@ -7,9 +7,12 @@ ghost use Rattle.hr_rel.specs.declared.stmt.Stmt.{Stmt};
 ghost use Rattle.hr_rel.specs.declared.stmt.Stmt.TheVariants as stmt;
 ghost use Rattle.hr_rel.specs.declared.stmt.SelectStmt.{SelectStmt};
 ghost use Rattle.hr_rel.specs.Database.{Database};
-ghost use Rattle.hr_rel.specs.Fit.{fits};
+ghost use Rattle.hr_rel.specs.Fit.{fits, is_grouped};
 ghost use Rattle.hr_rel.specs.Holds.{holds, IsSound, IsOrdered};
+ghost use Rattle.hr_meaning.specs.Truth.{Tuple};
+ghost use Rattle.hr_meaning.specs.Select.{answer_from};
 ghost use Rattle.hr_meaning.specs.Exec.{exec, failed};
+ghost use Rattle.hr_meaning.specs.SameAnswer.{SameAnswer};
 ghost use Rattle.hr_statement_laws.specs.Sizes.{is_small};
 
 /// No statement changes the catalog.
@@ -46,4 +49,9 @@ pub fn keeps_order()
 pub fn keeps_fitting()
     ensures ordered { (db : Database) → IsSound db.catalog → holds db.catalog db.tables ≡ true → IsOrdered db }
     ensures keeps { (db : Database) (s : Stmt) → IsSound db.catalog → holds db.catalog db.tables ≡ true → holds (exec db s).after.catalog (exec db s).after.tables ≡ true }
+{}
+
+/// A SELECT that doesn't group answers the same, in whatever order the rows or pairs that it keeps are looked at.
+pub fn in_any_order()
+    ensures { (s : SelectStmt) (kept others : List Tuple) → is_grouped s ≡ false → IsPermutation kept others → SameAnswer (answer_from s kept) (answer_from s others) }
 {}
