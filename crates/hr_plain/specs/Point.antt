@@ -1,4 +1,4 @@
--- Point queries, the one shape of SELECT that is run here.
+-- Not to be believed: point queries, the one shape of SELECT that is run here, and what they answer.
 use Rattle.std.specs.Prelude.{ℕ, ℤ, nat_lt, if◌then◌else◌, Some, None, List, [], ◌∷◌, length, map, filter}
 use Rattle.hr_base.specs.declared.limits.TheConstants.{MAX_ROWS}
 use Rattle.hr_rel.specs.declared.value.Value.{Value}

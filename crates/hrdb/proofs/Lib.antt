@@ -1,2 +1,3 @@
 pub mod Dumps
 pub mod Streams
+pub mod WorkedRuns

@@ -1,8 +1,13 @@
-use Rattle.std.proofs.Common.{pos, negsuc, ◌∷◌, [], refl, lit≤, rules}
+use Rattle.std.proofs.Common.{List, replicate, ap, ◌∙◌, ◌+◌, ◌*◌, pos, negsuc, ◌∷◌, [], refl, lit≤, rules}
 use Rattle.std.specs.Fmt.{digits}
 use Rattle.hr_scenario.specs.declared.form.Step.TheVariants.{Insert, Select, Commit}
 use Rattle.hr_scenario.specs.declared.form.Column.TheVariants.{Key, Value}
-use Rattle.hr_meaning.proofs.Folds.{folds}
+use Rattle.hr_rel.specs.declared.answer.Answer.{Answer}
+use Rattle.hr_rel.specs.Database.{Database}
+use Rattle.hr_scenario.specs.Meaning.{scenario_of}
+use Rattle.hr_report.specs.Report.{report_text}
+use Rattle.hrdb.specs.Replay.{last_dumps}
+use Rattle.hrdb.proofs.WorkedRuns.{replica_answers, replica_leaves, first_answers, second_answers}
 use Rattle.hrdb.specs.Worked.{one_replica}
 use Rattle.hrdb.proofs.worked.one_replica.Goals as goal
 
@@ -23,4 +28,7 @@ returns-clause-scenario c = record {
 
 pub returns-clause-report : goal.returns-clause-report
 unfolding digits
-returns-clause-report c = simp folds refl
+returns-clause-report c =
+    let scenario = scenario_of one_replica in
+    ap (λ (answers : List (List Answer)). report_text scenario answers (last_dumps scenario)) replica_answers
+    ∙ ap (λ (db : Database). report_text scenario (first_answers ∷ second_answers ∷ []) (replicate (2 * scenario.f + 1) db.tables)) replica_leaves

@@ -1,0 +1,17 @@
+pub mod Trees
+pub mod Words
+pub mod Databases
+pub mod Plain
+pub mod Unknown
+pub mod Expressions
+pub mod ManyRows
+pub mod Groups
+pub mod Aggregates
+pub mod Joins
+pub mod FurtherJoins
+pub mod Inserts
+pub mod Updates
+pub mod Deletes
+pub mod UnfitSelects
+pub mod UnfitTrees
+pub mod UnfitChanges
