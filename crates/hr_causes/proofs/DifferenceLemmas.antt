@@ -1,6 +1,6 @@
 -- A refusal for the votes: the answers differ first where the cause says, and its place is that of the other answer's Give.
 use Rattle.std.proofs.Common.{◌≡◌, ℕ, zero, suc, ◌+◌, ◌*◌, ◌<◌, ◌≤◌, Bool, true, false, not, ◌&&◌, ◌==◌, nat_le, if◌then◌else◌, Option, Some, None, is_some, is_none, unwrap_or, option_and_then, List, [], ◌∷◌, ◌++◌, length, count_by, find, refl, ap, sym, ◌∙◌, subst, arith, IsTrue}
-use Rattle.std.proofs.lemmas.Bool.{and_parts, eqb-true}
+use Rattle.std.proofs.lemmas.Bool.{and_parts, eqb-true, not-true}
 use Rattle.std.proofs.lemmas.List.{length-map}
 use Rattle.hr_base.specs.Lists.{has, last_of, when, numbered}
 use Rattle.hr_rel.specs.declared.answer.Answer.{Answer}
@@ -38,7 +38,7 @@ use Rattle.hr_records.specs.Numbers.{IsBorn, IsBalanced}
 use Rattle.hr_records.specs.Kept.{Kept}
 use Rattle.hr_records.proofs.Options.{On, on_some, when_on, first_on, then_on, map_on, first_of_on, find_has, has_range, same_some}
 use Rattle.hr_records.proofs.Places.{numbered_born, numbered_some}
-use Rattle.hr_records.proofs.NumberSteps.{not_both}
+use Rattle.hr_records.proofs.NumberSteps.{not_both, asked_balance}
 use Rattle.hr_records.proofs.RuleLemmas.{begun_before, begun_until, by_rule, was_due}
 use Rattle.hr_records.proofs.ViewWords.{open_seen, phase_seen, given_seen, statements_seen, answers_seen}
 use Rattle.hr_records.proofs.KeptLemmas.{kept}
@@ -170,17 +170,6 @@ module _ (v : View) (turn : Turn) where
       first_on P (preempt v turn) [] by_waits (λ l. tt))))))))
 
 -- THE DIFFERENCE
-balanced_asked : (p : Phase) (submitted given : ℕ) (waits : Bool) → is_asked p ≡ true → IsBalanced p submitted given waits → submitted ≡ given
-balanced_asked phase.Active submitted given waits asked is = cc asked
-balanced_asked (phase.Asked n) submitted given waits asked is = is.0
-balanced_asked (phase.Logged place) submitted given waits asked is = cc asked
-balanced_asked phase.RolledBack submitted given waits asked is = cc asked
-balanced_asked phase.Refused submitted given waits asked is = cc asked
-
-not_true : (b : Bool) → not b ≡ true → b ≡ false
-not_true true e = cc e
-not_true false e = refl
-
 module _ (f s c t index by at : ℕ) (h : History) (b : Begun f s (record { caller = c; event = event.Refuse t (cause.Differ index by at) } ∷ h)) where
   abbrev e : Entry
   e = record { caller = c; event = event.Refuse t (cause.Differ index by at) }
@@ -204,7 +193,7 @@ module _ (f s c t index by at : ℕ) (h : History) (b : Begun f s (record { call
   votes =
       let all = and_parts (is_ready (view_of f h) t by && not (same_answers (answers_in (view_of f h) by t) (given_in (view_of f h) t))) (nat_le (f + 1) (count_by (agree_on (view_of f h) t by) (replica_numbers f))) found.1 in
       let two = and_parts (is_ready (view_of f h) t by) (not (same_answers (answers_in (view_of f h) by t) (given_in (view_of f h) t))) all.0 in
-      (two.0, not_true (same_answers (answers_in (view_of f h) by t) (given_in (view_of f h) t)) two.1)
+      (two.0, not-true (same_answers (answers_in (view_of f h) by t) (given_in (view_of f h) t)) two.1)
 
   whole : length (answers_in (view_of f h) by t) ≡ (txn_in (view_of f h) t).statements
   whole = eqb-true (length (answers_in (view_of f h) by t)) (txn_in (view_of f h) t).statements
@@ -216,7 +205,7 @@ module _ (f s c t index by at : ℕ) (h : History) (b : Begun f s (record { call
   as_many : length (submits t h) ≡ length (given_to t h)
   as_many =
       let session = numbered_some (begun h) t its.0 in
-      balanced_asked (phase_of t h) (length (submits t h)) (length (given_to t h)) (is_waiting (reply_to session.0 h)) asked ((k.numbers).balance t session.0 session.1)
+      asked_balance (phase_of t h) (length (submits t h)) (length (given_to t h)) (is_waiting (reply_to session.0 h)) asked ((k.numbers).balance t session.0 session.1)
 
   given_here : given_in (view_of f h) t ≡ answers_given (given_to t h)
   given_here = ap answers_given (given_seen f t h its.0)

@@ -30,9 +30,7 @@ use Rattle.hr_history.specs.Faithful.{Begun}
 use Rattle.hr_records.specs.Numbers.{IsBorn}
 use Rattle.hr_records.specs.Kept.{Kept}
 use Rattle.hr_records.proofs.Options.{On, on_some, when_on, first_on, then_on, map_on, first_of_on, in_range, some_none, none_mapped}
-use Rattle.hr_records.proofs.Born.{born_or_not}
-use Rattle.hr_records.proofs.NumberSteps.{not_both}
-use Rattle.hr_records.proofs.KeptLemmas.{kept, decided_asked}
+use Rattle.hr_records.proofs.KeptLemmas.{kept, asked_born, decided_asked}
 use Rattle.hr_records.proofs.RuleLemmas.{begun_before, was_due, by_rule, asked_is_open}
 use Rattle.hr_records.proofs.LeadLemmas.{refused_all}
 use Rattle.hr_records.proofs.ViewWords.{open_txn, txn_born, phase_seen}
@@ -109,9 +107,6 @@ follows_first : (f s : ℕ) (e : Entry) (h : History) → Begun f s (e ∷ h) �
 follows_first f s e h b n = on_some (ComesFirst (view_of f h) (turn_of h)) (due f h) e.event (was_due f s e h b n) (due_first (view_of f h) (turn_of h))
 
 -- IN THE ORDER OF ASKING
-asked_born : (t : ℕ) (h : History) → Kept h → is_asked (phase_of t h) ≡ true → IsBorn (length (begun h)) t
-asked_born t h k asked = elim (born_or_not (length (begun h)) t) [ inl born ↦ born | inr unborn ↦ absurd (not_both (is_asked (phase_of t h)) asked (ap is_asked (k.numbers.unborn t unborn).0)) ]
-
 asked_later : (p q : Phase) (t u n m : ℕ) → p ≡ phase.Asked n → q ≡ phase.Asked m → (is_before (rank_by q u) (rank_by p t) ≡ true → ⊥) → n ≤ m
 asked_later p q t u n m e d never = by_test (nat_lt m n) refl
   where
