@@ -1,5 +1,5 @@
 -- Who is the primary within a turn, and that it isn't convicted.
-use Rattle.std.proofs.Common.{◌≡◌, ◌⊎◌, inl, inr, ℕ, ◌+◌, Bool, true, false, not, ◌||◌, ◌==◌, if◌then◌else◌, Option, Some, None, is_some, List, [], ◌∷◌, ◌++◌, length, refl, ap, sym, ◌∙◌, arith}
+use Rattle.std.proofs.Common.{◌≡◌, ◌⊎◌, inl, inr, ℕ, ◌+◌, Bool, true, false, not, ◌||◌, if◌then◌else◌, Option, Some, None, is_some, List, [], ◌∷◌, ◌++◌, length, refl, ap, sym, ◌∙◌, arith}
 use Rattle.std.proofs.lemmas.Bool.{and_parts, not-true}
 use Rattle.hr_engine.specs.Attempts.{attempt}
 use Rattle.hr_history.specs.declared.cause.Why.TheVariants as why
@@ -10,7 +10,7 @@ use Rattle.hr_history.specs.declared.job.Job.TheVariants as job
 use Rattle.hr_history.specs.History.{History, is_call}
 use Rattle.hr_history.specs.Transactions.{begun, phase_of, is_open}
 use Rattle.hr_history.specs.Replicas.{out_at, journal_of, is_convicted, tells_loss}
-use Rattle.hr_history.specs.Primary.{primary_of, is_some_of, other_than}
+use Rattle.hr_history.specs.Primary.{primary_of, is_some_of}
 use Rattle.hr_history.specs.Given.{given_to}
 use Rattle.hr_history.specs.Turn.{turn_of, went, Gone}
 use Rattle.hr_history.specs.View.{view_of, Progress}

@@ -1,5 +1,5 @@
 -- After a turn, who has a cause to be refused is refused.
-use Rattle.std.proofs.Common.{◌≡◌, ℕ, Bool, true, false, ◌&&◌, Some, None, is_some, length, option_and_then, refl, ap, sym, ◌∙◌}
+use Rattle.std.proofs.Common.{◌≡◌, ℕ, true, false, ◌&&◌, Some, None, is_some, length, option_and_then, refl, ap, sym, ◌∙◌}
 use Rattle.std.proofs.lemmas.Bool.{false_from_ne_true}
 use Rattle.hr_base.specs.Lists.{when}
 use Rattle.hr_engine.specs.declared.reply.RunReply.{RunReply}

@@ -1,5 +1,5 @@
 -- Who is preempted, and why.
-use Rattle.std.proofs.Common.{◌≡◌, ◌⊎◌, inl, inr, ℕ, ◌+◌, ◌*◌, ◌<◌, Bool, true, false, not, ◌&&◌, ◌||◌, ◌==◌, Option, Some, None, List, [], ◌∷◌, length, refl, ap, sym, ◌∙◌}
+use Rattle.std.proofs.Common.{◌≡◌, ◌⊎◌, inl, inr, ℕ, ◌+◌, ◌*◌, ◌<◌, Bool, true, false, not, ◌&&◌, ◌||◌, Option, Some, None, List, [], ◌∷◌, length, refl, ap, sym, ◌∙◌}
 use Rattle.std.specs.List.{list_any, list_all}
 use Rattle.std.proofs.lemmas.Bool.{and_parts, or_cases, eq-eqb, not-true}
 use Rattle.hr_base.specs.Lists.{has}
@@ -14,15 +14,12 @@ use Rattle.hr_history.specs.History.{History}
 use Rattle.hr_history.specs.Transactions.{begun, phase_of, is_logged, is_asked, is_ended}
 use Rattle.hr_history.specs.Replicas.{journal_of}
 use Rattle.hr_history.specs.Primary.{primary_of, is_some_of}
-use Rattle.hr_history.specs.Attempts.{is_preempted}
-use Rattle.hr_history.specs.Turn.{turn_of}
-use Rattle.hr_history.specs.View.{View, view_of}
-use Rattle.hr_history.specs.Processed.{phase_in, attempt_in, runs_in, wait_in, standing_in, is_primary}
+use Rattle.hr_history.specs.View.{view_of}
+use Rattle.hr_history.specs.Processed.{phase_in, attempt_in, runs_in, wait_in, is_primary}
 use Rattle.hr_history.specs.Ranks.{ranks_before}
 use Rattle.hr_history.specs.Jobs.{txn_numbers}
-use Rattle.hr_history.specs.Preemption.{stays, is_held_up, is_last_in_rank, gives_way_in, is_last_of_cycle, is_to_give_way}
+use Rattle.hr_history.specs.Preemption.{stays, is_held_up, is_last_in_rank, gives_way_in, is_last_of_cycle}
 use Rattle.hr_history.specs.Faithful.{Begun}
-use Rattle.hr_records.specs.ByRule.{GivesWay}
 use Rattle.hr_records.specs.Numbers.{IsBorn}
 use Rattle.hr_records.specs.Kept.{Kept}
 use Rattle.hr_records.proofs.Born.{born_or_not}

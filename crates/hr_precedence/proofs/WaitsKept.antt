@@ -1,7 +1,7 @@
 -- A statement runs where nobody whom its transaction waits for runs, and no cycle of waits stands that it was told of.
-use Rattle.std.proofs.Common.{◌≡◌, ◌⊎◌, inl, inr, ⊎_elim, ℕ, ◌+◌, ◌*◌, ◌<◌, Bool, true, false, not, cond, ◌&&◌, ◌||◌, ◌==◌, nat_le, if◌then◌else◌, Option, Some, None, is_none, slice_get, filter, option_and_then, List, [], ◌∷◌, length, refl, ap, sym, ◌∙◌}
-use Rattle.std.specs.List.{list_any, list_all}
-use Rattle.std.proofs.lemmas.Bool.{and_parts, or_cases, or_left, eqb-true, not-true}
+use Rattle.std.proofs.Common.{◌≡◌, inl, inr, ℕ, ◌+◌, ◌*◌, ◌<◌, Bool, true, false, not, cond, ◌&&◌, ◌||◌, ◌==◌, nat_le, Option, Some, None, is_none, slice_get, filter, option_and_then, List, [], ◌∷◌, length, refl, ap, sym, ◌∙◌}
+use Rattle.std.specs.List.{list_any}
+use Rattle.std.proofs.lemmas.Bool.{and_parts, or_cases, eqb-true, not-true}
 use Rattle.hr_base.specs.Lists.{has, once}
 use Rattle.hr_base.proofs.ListLaws.{has_head, has_tail, has-filter}
 use Rattle.hr_base.proofs.Tests.{or_false, in_once, kept, kept_once}
@@ -16,8 +16,8 @@ use Rattle.hr_history.specs.Attempts.{last_told}
 use Rattle.hr_history.specs.Transactions.{is_open, is_logged}
 use Rattle.hr_history.specs.Turn.{fresh_of}
 use Rattle.hr_history.specs.View.{View, Attempt, view_of, is_fresh}
-use Rattle.hr_history.specs.Processed.{txn_in, phase_in, attempt_in, answers_in, runs_in, wait_in, standing_in, is_committed, processed_in, named_in, cycle_in}
-use Rattle.hr_history.specs.Jobs.{is_stamped_by, may_go_on, may_repeat, pending_index, may_run_first, job_in}
+use Rattle.hr_history.specs.Processed.{txn_in, phase_in, answers_in, runs_in, wait_in, standing_in, is_committed, processed_in, named_in, cycle_in}
+use Rattle.hr_history.specs.Jobs.{is_stamped_by, may_go_on, pending_index, job_in}
 use Rattle.hr_history.proofs.WaitLaws.{if_all_again, wait_of_last, standing_of_last}
 use Rattle.hr_history.proofs.AttemptSteps.{attempt_lookup}
 use Rattle.hr_records.specs.ByRule.{IsRunOf}
