@@ -28,7 +28,7 @@ use Rattle.hr_history.specs.Given.{given_to}
 use Rattle.hr_history.specs.Faithful.{Begun, fits_job}
 use Rattle.hr_history.proofs.StepLemmas.{call_allowed}
 use Rattle.hr_records.specs.ByRule.{IsElected, GivesWay, IsJobOf}
-use Rattle.hr_records.specs.Numbers.{IsBorn, IsBalanced}
+use Rattle.hr_records.specs.Numbers.{IsBorn}
 use Rattle.hr_records.specs.Kept.{Kept}
 use Rattle.hr_records.proofs.Options.{some_none, same_some}
 use Rattle.hr_records.proofs.PrimaryWords.{other_is}
