@@ -2,7 +2,7 @@
 use Rattle.std.proofs.Common.{◌≡◌, ◌⊎◌, inl, inr, ℕ, suc, ◌+◌, ◌*◌, ◌<◌, ◌≤◌, true, Some, slice_get, [], ◌∷◌, ◌++◌, take, drop, length, map, ap, sym, ◌∙◌, subst, arith, append_assoc}
 use Rattle.std.specs.List.{AllZip, prefix_len}
 use Rattle.std.proofs.lemmas.List.{map-append, take-append-drop}
-use Rattle.std.proofs.lemmas.Bool.{or_cases, leb-true}
+use Rattle.std.proofs.lemmas.Bool.{or_cases}
 use Rattle.hr_base.specs.Lists.{is_distinct}
 use Rattle.hr_rel.specs.Database.{Database}
 use Rattle.hr_meaning.specs.Serial.{play, database_after, database_at, serial_answers}
@@ -12,13 +12,11 @@ use Rattle.hr_engine.specs.Base.{settled, base, count}
 use Rattle.hr_engine.specs.Rigorous.{Rigorous}
 use Rattle.hr_engine.proofs.AnyList.{any_list}
 use Rattle.hr_engine.proofs.SerialLaws.{database_after-append}
-use Rattle.hr_history.specs.declared.phase.Phase.{Phase}
-use Rattle.hr_history.specs.declared.phase.Phase.TheVariants as phase
 use Rattle.hr_history.specs.History.{History}
 use Rattle.hr_history.specs.Transactions.{log, submits}
 use Rattle.hr_history.specs.Replicas.{journal_of}
 use Rattle.hr_history.specs.View.{view_of}
-use Rattle.hr_history.specs.Processed.{phase_in, replica_in, is_logged_by, is_committed, is_whole, is_processed}
+use Rattle.hr_history.specs.Processed.{phase_in, replica_in, is_committed, is_whole, is_processed}
 use Rattle.hr_records.specs.AtReplica.{Begins}
 use Rattle.hr_records.specs.Kept.{Kept}
 use Rattle.hr_records.proofs.Places.{got_more}

@@ -1,6 +1,6 @@
 -- While a statement with a stamp is out at a replica, there is such a place of the log.
 use Rattle.std.proofs.Common.{◌≡◌, ◌⊎◌, inl, inr, ⊎_elim, ℕ, suc, ◌+◌, ◌*◌, ◌<◌, ◌≤◌, Bool, true, false, not, ◌&&◌, ◌||◌, ◌==◌, if◌then◌else◌, Option, Some, None, slice_get, List, [], ◌∷◌, ◌++◌, length, refl, ap, sym, ◌∙◌, subst, arith}
-use Rattle.std.proofs.lemmas.Bool.{and_parts, or_cases, eqb-true, eq-eqb, leb-true}
+use Rattle.std.proofs.lemmas.Bool.{and_parts, or_cases, eqb-true, eq-eqb, leb-true, not-true}
 use Rattle.hr_base.specs.Lists.{numbered}
 use Rattle.hr_base.proofs.Tests.{if_false}
 use Rattle.hr_engine.specs.declared.reply.RunReply.TheVariants as run
@@ -45,10 +45,6 @@ logged_place (phase.Logged n) e = (n, refl)
 logged_place phase.RolledBack e = cc e
 logged_place phase.Refused e = cc e
 
-not_false : (b : Bool) → not b ≡ true → b ≡ false
-not_false true e = cc e
-not_false false e = refl
-
 stamp_low : (m : ℕ) (o : Option Given) (g : Given) → o ≡ Some g → is_stamped_by m o ≡ true → g.stamp ≤ m
 stamp_low m o g e is = leb-true g.stamp m (sym (ap (is_stamped_by m) e) ∙ is)
 
@@ -70,7 +66,7 @@ window_taken f s r t i g h b k lt is at = let born = txn_born f t h is.rule.1 in
         | inr waiting ↦ (
             let parts = and_parts (is_logged (phase_in v t)) (not (is_committed v r t)) waiting in
             let its = logged_place (phase_of t h) (ap is_logged (sym (phase_seen f t h born)) ∙ parts.0) in
-            let after = late f s r t i g h b k lt born at (phase_in v t) its.0 (replica_in v r).position (phase_seen f t h born ∙ its.1) (not_false (is_committed v r t) parts.1) in
+            let after = late f s r t i g h b k lt born at (phase_in v t) its.0 (replica_in v r).position (phase_seen f t h born ∙ its.1) (not-true (is_committed v r t) parts.1) in
             of_logged f s r t i g h b k lt born at low its.0 its.1 (omega (arith, after, position_seen f r h lt)))
       ])
 ]

@@ -28,12 +28,12 @@ use Rattle.hr_history.specs.Given.{given_to}
 use Rattle.hr_history.specs.Faithful.{Begun, fits_job}
 use Rattle.hr_history.proofs.StepLemmas.{call_allowed}
 use Rattle.hr_records.specs.ByRule.{IsElected, GivesWay, IsJobOf}
-use Rattle.hr_records.specs.Numbers.{IsBorn, IsBalanced}
+use Rattle.hr_records.specs.Numbers.{IsBorn}
 use Rattle.hr_records.specs.Kept.{Kept}
 use Rattle.hr_records.proofs.Options.{some_none, same_some}
 use Rattle.hr_records.proofs.PrimaryWords.{other_is}
 use Rattle.hr_records.proofs.Places.{same_or_not, if_other, if_same, numbered_born, numbered_some}
-use Rattle.hr_records.proofs.NumberSteps.{not_both, same_place}
+use Rattle.hr_records.proofs.NumberSteps.{not_both, same_place, asked_balance}
 use Rattle.hr_records.proofs.NumberLemmas.{phase_at_begin, submits_at_begin}
 use Rattle.hr_records.proofs.Allowed.{begin_allowed, submit_allowed, take_allowed, give_allowed, restart_allowed}
 use Rattle.hr_records.proofs.RuleLemmas.{begun_before, by_rule, asked_is_open}
@@ -43,13 +43,6 @@ use Rattle.hr_barriers.proofs.WholeWords.{IsHeld, Holds, same_log, no_other, ele
 
 abbrev pub HoldsAt : ℕ → History → Type 0
 HoldsAt r h = Holds r (primary_of h) (λ t. phase_of t h) (count (journal_of r h)) (λ t. length (attempt t (journal_of r h))) (λ t. length (submits t h)) (λ t. is_preempted r t h) (out_at r h)
-
-pub asked_balance : (p : Phase) (s g : ℕ) (w : Bool) → is_asked p ≡ true → IsBalanced p s g w → s ≡ g
-asked_balance phase.Active s g w e b = cc e
-asked_balance (phase.Asked n) s g w e b = b.0
-asked_balance (phase.Logged n) s g w e b = cc e
-asked_balance phase.RolledBack s g w e b = cc e
-asked_balance phase.Refused s g w e b = cc e
 
 not_ended : (p : Phase) (place : ℕ) → p ≡ phase.Logged place → is_ended p ≡ true → ⊥
 not_ended p place e is = no_end (sym (ap is_ended e) ∙ is)

@@ -1,7 +1,7 @@
 -- The primary's Deadlock is no evidence: it is one that a correct replica may tell.
 use Rattle.std.proofs.Common.{◌≡◌, inl, inr, ℕ, ◌+◌, ◌*◌, ◌<◌, Bool, true, false, not, ◌&&◌, ◌==◌, Option, Some, None, List, [], ◌∷◌, ◌++◌, length, map, option_and_then, refl, ap, sym, ◌∙◌, arith}
 use Rattle.std.specs.List.{list_all}
-use Rattle.std.proofs.lemmas.Bool.{and_parts, or_cases, eqb-true, eq-eqb, ne_eqb}
+use Rattle.std.proofs.lemmas.Bool.{and_parts, or_cases, eqb-true, eq-eqb, ne_eqb, not-true}
 use Rattle.hr_base.specs.Lists.{has, is_empty, is_distinct, last_of, first_some, when}
 use Rattle.hr_base.proofs.ListLaws.{all_agree_on}
 use Rattle.hr_base.proofs.Tests.{or_false}
@@ -138,15 +138,11 @@ sound_same p q w x t runs waits (first ∷ others) is =
     let four = and_parts ((first == t) && not (is_empty others) && is_distinct (first ∷ others)) (list_all p others) last.0 in
     let three = and_parts ((first == t) && not (is_empty others)) (is_distinct (first ∷ others)) four.0 in
     let two = and_parts (first == t) (not (is_empty others)) three.0 in
-    let apart = not_false (has others first) (and_parts (not (has others first)) (is_distinct others) three.1).0 in
+    let apart = not-true (has others first) (and_parts (not (has others first)) (is_distinct others) three.1).0 in
     together three.0 three.1
     (sym (all_agree_on p q others (λ u there. runs u)) ∙ four.1)
     (sym (chain_same w x t waits others (ap (has others) (sym (eqb-true first t two.0)) ∙ apart)) ∙ last.1)
   where
-    not_false : (b : Bool) → not b ≡ true → b ≡ false
-    not_false true e = cc e
-    not_false false e = refl
-
     together : ((first == t) && not (is_empty others)) ≡ true → is_distinct (first ∷ others) ≡ true → list_all q others ≡ true → is_chain x (others ++ t ∷ []) ≡ true
         → is_sound_deadlock q x t (first ∷ others) ≡ true
     together a b c d = λ i. a i && b i && c i && d i

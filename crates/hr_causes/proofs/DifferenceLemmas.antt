@@ -1,10 +1,9 @@
 -- A refusal for the votes: the answers differ first where the cause says, and its place is that of the other answer's Give.
-use Rattle.std.proofs.Common.{◌≡◌, ℕ, zero, suc, ◌+◌, ◌*◌, ◌<◌, ◌≤◌, Bool, true, false, not, ◌&&◌, ◌==◌, nat_le, if◌then◌else◌, Option, Some, None, is_some, is_none, unwrap_or, option_and_then, List, [], ◌∷◌, ◌++◌, length, count_by, find, refl, ap, sym, ◌∙◌, subst, arith, IsTrue}
-use Rattle.std.proofs.lemmas.Bool.{and_parts, eqb-true}
+use Rattle.std.proofs.Common.{◌≡◌, ℕ, zero, suc, ◌+◌, ◌*◌, ◌<◌, ◌≤◌, Bool, true, false, not, ◌&&◌, ◌==◌, nat_le, if◌then◌else◌, Some, is_some, unwrap_or, List, [], ◌∷◌, ◌++◌, length, count_by, refl, ap, sym, ◌∙◌, subst, arith, IsTrue}
+use Rattle.std.proofs.lemmas.Bool.{and_parts, eqb-true, not-true}
 use Rattle.std.proofs.lemmas.List.{length-map}
-use Rattle.hr_base.specs.Lists.{has, last_of, when, numbered}
+use Rattle.hr_base.specs.Lists.{has, numbered}
 use Rattle.hr_rel.specs.declared.answer.Answer.{Answer}
-use Rattle.hr_engine.specs.declared.reply.RunReply.{RunReply}
 use Rattle.hr_engine.specs.declared.reply.RunReply.TheVariants as run
 use Rattle.hr_history.specs.declared.cause.CauseAt.{CauseAt}
 use Rattle.hr_history.specs.declared.cause.CauseAt.TheVariants as cause
@@ -13,38 +12,33 @@ use Rattle.hr_history.specs.declared.entry.Event.{Event}
 use Rattle.hr_history.specs.declared.entry.Event.TheVariants as event
 use Rattle.hr_history.specs.declared.job.Job.TheVariants as job
 use Rattle.hr_history.specs.declared.job.JobReply.TheVariants as reply
-use Rattle.hr_history.specs.declared.phase.Phase.{Phase}
-use Rattle.hr_history.specs.declared.phase.Phase.TheVariants as phase
-use Rattle.hr_history.specs.declared.phase.Fresh.{Fresh}
 use Rattle.hr_history.specs.History.{History}
 use Rattle.hr_history.specs.ReplicaNumbers.{replica_numbers}
 use Rattle.hr_history.specs.SameAnswers.{same_answer, same_answers, first_difference}
 use Rattle.hr_history.specs.Transactions.{begun, log, submits, phase_of, is_open, is_asked}
 use Rattle.hr_history.specs.Given.{Given, given_to, answers_given}
 use Rattle.hr_history.specs.Attempts.{places_told}
-use Rattle.hr_history.specs.Turn.{Turn, Contradiction, turn_of}
+use Rattle.hr_history.specs.Turn.{Turn, turn_of}
 use Rattle.hr_history.specs.View.{View, Attempt, view_of}
-use Rattle.hr_history.specs.Processed.{txn_in, phase_in, replica_in, answers_in, given_in, live_in, is_primary, is_whole, processed_in, candidate_in, is_caught_up}
+use Rattle.hr_history.specs.Processed.{txn_in, phase_in, answers_in, given_in, live_in, is_whole, processed_in}
 use Rattle.hr_history.specs.Votes.{is_ready, agree_on, contradicts, contradicted_by, is_contradicted, difference_at}
-use Rattle.hr_history.specs.Jobs.{txn_numbers}
-use Rattle.hr_history.specs.Preemption.{preempted_next}
-use Rattle.hr_history.specs.Evidence.{evidence_of}
-use Rattle.hr_history.specs.Rules.{convict_with, owed_conviction, conviction_of, convict, refuse_for, primary_gone, cause_by, refuse_after, primary_reply, decide, refuse_as_differ, differ, answer_place, new_primary, preemption_at, preempt, due_in, due}
+use Rattle.hr_history.specs.Rules.{answer_place, due_in, due}
 use Rattle.hr_history.specs.Replies.{is_waiting, reply_to}
 use Rattle.hr_history.specs.Faithful.{Begun}
 use Rattle.hr_history.proofs.SameAnswersLemmas.{same_answer_decides}
 use Rattle.hr_history.proofs.AttemptSteps.{attempt_lookup}
-use Rattle.hr_records.specs.Numbers.{IsBorn, IsBalanced}
+use Rattle.hr_records.specs.Numbers.{IsBorn}
 use Rattle.hr_records.specs.Kept.{Kept}
-use Rattle.hr_records.proofs.Options.{On, on_some, when_on, first_on, then_on, map_on, first_of_on, find_has, has_range, same_some}
+use Rattle.hr_records.proofs.Options.{On, on_some, find_has, has_range, same_some}
 use Rattle.hr_records.proofs.Places.{numbered_born, numbered_some}
-use Rattle.hr_records.proofs.NumberSteps.{not_both}
+use Rattle.hr_records.proofs.NumberSteps.{not_both, asked_balance}
 use Rattle.hr_records.proofs.RuleLemmas.{begun_before, begun_until, by_rule, was_due}
 use Rattle.hr_records.proofs.ViewWords.{open_seen, phase_seen, given_seen, statements_seen, answers_seen}
 use Rattle.hr_records.proofs.KeptLemmas.{kept}
 use Rattle.hr_causes.specs.Places.{StandsAt}
 use Rattle.hr_causes.specs.Causes.{answers_at, IsShownDifference}
 use Rattle.hr_causes.proofs.PlaceLemmas.{AnswerAt, told}
+use Rattle.hr_causes.proofs.DueLemmas.{due_on}
 
 -- WHERE TWO LISTS DIFFER FIRST
 pub record FirstDifference (xs ys : List Answer) (i : ℕ) : Type 0 where
@@ -113,74 +107,20 @@ abbrev IsPlaced : View → Turn → Event → Type 0
 IsPlaced v turn (event.Refuse t c) = CauseIsPlaced v turn t c
 IsPlaced v turn _ = Unit {0}
 
-module _ (v : View) (turn : Turn) where
-  abbrev P : Event → Type 0
-  P e = IsPlaced v turn e
-
-  by_owed : On P (owed_conviction v turn)
-  by_owed = then_on P (convict_with v.primary) turn.owed (λ c owed. of_primary v.primary c)
-    where
-      of_primary : (o : Option ℕ) (c : Contradiction) → On P (convict_with o c)
-      of_primary None c = tt
-      of_primary (Some p) c = tt
-
-  by_evidence : On P (convict v turn)
-  by_evidence = first_of_on P (conviction_of v turn) (replica_numbers v.f) (λ r there.
-      then_on P (λ e. when (not (replica_in v r).convicted) (event.Convict r e)) (evidence_of v r turn) (λ e shown.
-      when_on P (not (replica_in v r).convicted) (event.Convict r e) (λ un. tt)))
-
-  by_gone : On P (primary_gone v turn)
-  by_gone = then_on P (refuse_for v turn) turn.went (λ gone went.
-      map_on P (λ t. event.Refuse t (cause.PrimaryChanged gone.from gone.why gone.at)) (find (λ t. is_open (phase_in v t)) (txn_numbers v)) (λ t found. tt))
-
-  by_reply : On P (primary_reply v turn)
-  by_reply = then_on P (refuse_after v turn) v.fresh (λ fresh is. of_reply fresh (last_of v.replies))
-    where
-      of_reply : (fresh : Fresh) (o : Option RunReply) → On P (option_and_then (λ c. when (is_primary v fresh.replica && is_open (phase_in v fresh.txn)) (event.Refuse fresh.txn c)) (cause_by v turn o))
-      of_reply fresh None = tt
-      of_reply fresh (Some (run.Done answer)) = tt
-      of_reply fresh (Some (run.Blocked named)) = tt
-      of_reply fresh (Some run.Lost) = tt
-      of_reply fresh (Some (run.Deadlock cycle)) = when_on P (is_primary v fresh.replica && is_open (phase_in v fresh.txn)) (event.Refuse fresh.txn (cause.Deadlock turn.start)) (λ both. tt)
-      of_reply fresh (Some run.NoMemory) = when_on P (is_primary v fresh.replica && is_open (phase_in v fresh.txn)) (event.Refuse fresh.txn (cause.PrimaryMemory turn.start)) (λ both. tt)
-
-  by_votes : On P (decide v turn)
-  by_votes = map_on P (λ t. event.Decide t) _ (λ t first. tt)
-
-  by_contradiction : On P (differ v turn)
-  by_contradiction = then_on P (refuse_as_differ v turn) _ (λ t first.
-      map_on P (λ r. event.Refuse t (cause.Differ (difference_at v r t) r (answer_place v turn r t (difference_at v r t)))) (contradicted_by v t) (λ r by. refl))
-
-  by_vacancy : On P (new_primary v turn)
-  by_vacancy = then_on P (λ r. when (is_none v.primary && is_caught_up v r) (event.NewPrimary r)) (candidate_in v) (λ r candidate.
-      when_on P (is_none v.primary && is_caught_up v r) (event.NewPrimary r) (λ both. tt))
-
-  by_waits : On P (preempt v turn)
-  by_waits = first_of_on P (preemption_at v turn) (replica_numbers v.f) (λ r there. map_on P (λ t. event.Preempt r t) (preempted_next v r) (λ t next. tt))
-
-  due_placed : On P (due_in v turn)
-  due_placed =
-      first_on P (owed_conviction v turn) _ by_owed (λ a.
-      first_on P (convict v turn) _ by_evidence (λ b.
-      first_on P (primary_gone v turn) _ by_gone (λ c.
-      first_on P (primary_reply v turn) _ by_reply (λ d.
-      first_on P (decide v turn) _ by_votes (λ e.
-      first_on P (differ v turn) _ by_contradiction (λ g.
-      first_on P (new_primary v turn) _ by_vacancy (λ k.
-      first_on P (preempt v turn) [] by_waits (λ l. tt))))))))
+due_placed : (v : View) (turn : Turn) → On (IsPlaced v turn) (due_in v turn)
+due_placed v turn =
+    due_on v turn (IsPlaced v turn) record {
+      convicts = λ r x. tt;
+      gone = λ t from because at. tt;
+      deadlock = λ t at. tt;
+      memory = λ t at. tt;
+      decides = λ none t first. tt;
+      differs = λ none t by first. refl;
+      elects = λ r. tt;
+      preempts = λ none r t. tt;
+    }
 
 -- THE DIFFERENCE
-balanced_asked : (p : Phase) (submitted given : ℕ) (waits : Bool) → is_asked p ≡ true → IsBalanced p submitted given waits → submitted ≡ given
-balanced_asked phase.Active submitted given waits asked is = cc asked
-balanced_asked (phase.Asked n) submitted given waits asked is = is.0
-balanced_asked (phase.Logged place) submitted given waits asked is = cc asked
-balanced_asked phase.RolledBack submitted given waits asked is = cc asked
-balanced_asked phase.Refused submitted given waits asked is = cc asked
-
-not_true : (b : Bool) → not b ≡ true → b ≡ false
-not_true true e = cc e
-not_true false e = refl
-
 module _ (f s c t index by at : ℕ) (h : History) (b : Begun f s (record { caller = c; event = event.Refuse t (cause.Differ index by at) } ∷ h)) where
   abbrev e : Entry
   e = record { caller = c; event = event.Refuse t (cause.Differ index by at) }
@@ -204,7 +144,7 @@ module _ (f s c t index by at : ℕ) (h : History) (b : Begun f s (record { call
   votes =
       let all = and_parts (is_ready (view_of f h) t by && not (same_answers (answers_in (view_of f h) by t) (given_in (view_of f h) t))) (nat_le (f + 1) (count_by (agree_on (view_of f h) t by) (replica_numbers f))) found.1 in
       let two = and_parts (is_ready (view_of f h) t by) (not (same_answers (answers_in (view_of f h) by t) (given_in (view_of f h) t))) all.0 in
-      (two.0, not_true (same_answers (answers_in (view_of f h) by t) (given_in (view_of f h) t)) two.1)
+      (two.0, not-true (same_answers (answers_in (view_of f h) by t) (given_in (view_of f h) t)) two.1)
 
   whole : length (answers_in (view_of f h) by t) ≡ (txn_in (view_of f h) t).statements
   whole = eqb-true (length (answers_in (view_of f h) by t)) (txn_in (view_of f h) t).statements
@@ -216,7 +156,7 @@ module _ (f s c t index by at : ℕ) (h : History) (b : Begun f s (record { call
   as_many : length (submits t h) ≡ length (given_to t h)
   as_many =
       let session = numbered_some (begun h) t its.0 in
-      balanced_asked (phase_of t h) (length (submits t h)) (length (given_to t h)) (is_waiting (reply_to session.0 h)) asked ((k.numbers).balance t session.0 session.1)
+      asked_balance (phase_of t h) (length (submits t h)) (length (given_to t h)) (is_waiting (reply_to session.0 h)) asked ((k.numbers).balance t session.0 session.1)
 
   given_here : given_in (view_of f h) t ≡ answers_given (given_to t h)
   given_here = ap answers_given (given_seen f t h its.0)

@@ -4,5 +4,6 @@ pub mod PrimaryLemmas
 pub mod DeadlockLemmas
 pub mod ReplyLemmas
 pub mod PlaceLemmas
+pub mod DueLemmas
 pub mod DifferenceLemmas
 pub mod RefusedLemmas

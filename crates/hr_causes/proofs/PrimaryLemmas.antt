@@ -1,6 +1,6 @@
 -- Who is the primary within a turn, and that it isn't convicted.
-use Rattle.std.proofs.Common.{◌≡◌, ◌⊎◌, inl, inr, ℕ, ◌+◌, Bool, true, false, not, ◌||◌, ◌==◌, if◌then◌else◌, Option, Some, None, is_some, List, [], ◌∷◌, ◌++◌, length, refl, ap, sym, ◌∙◌, arith}
-use Rattle.std.proofs.lemmas.Bool.{and_parts}
+use Rattle.std.proofs.Common.{◌≡◌, ◌⊎◌, inl, inr, ℕ, ◌+◌, Bool, true, false, not, ◌||◌, if◌then◌else◌, Option, Some, None, is_some, List, [], ◌∷◌, ◌++◌, length, refl, ap, sym, ◌∙◌, arith}
+use Rattle.std.proofs.lemmas.Bool.{and_parts, not-true}
 use Rattle.hr_engine.specs.Attempts.{attempt}
 use Rattle.hr_history.specs.declared.cause.Why.TheVariants as why
 use Rattle.hr_history.specs.declared.entry.Entry.{Entry}
@@ -10,7 +10,7 @@ use Rattle.hr_history.specs.declared.job.Job.TheVariants as job
 use Rattle.hr_history.specs.History.{History, is_call}
 use Rattle.hr_history.specs.Transactions.{begun, phase_of, is_open}
 use Rattle.hr_history.specs.Replicas.{out_at, journal_of, is_convicted, tells_loss}
-use Rattle.hr_history.specs.Primary.{primary_of, is_some_of, other_than}
+use Rattle.hr_history.specs.Primary.{primary_of, is_some_of}
 use Rattle.hr_history.specs.Given.{given_to}
 use Rattle.hr_history.specs.Turn.{turn_of, went, Gone}
 use Rattle.hr_history.specs.View.{view_of, Progress}
@@ -21,25 +21,17 @@ use Rattle.hr_records.specs.ByRule.{IsElected}
 use Rattle.hr_records.specs.Numbers.{IsBorn}
 use Rattle.hr_records.specs.Kept.{Kept}
 use Rattle.hr_records.proofs.Options.{some_none, same_some}
-use Rattle.hr_records.proofs.PrimaryWords.{other_is}
+use Rattle.hr_records.proofs.PrimaryWords.{other_is, if_lost}
 use Rattle.hr_records.proofs.RuleLemmas.{begun_before, begun_until, by_rule, nothing_due}
 use Rattle.hr_records.proofs.KeptLemmas.{kept}
 use Rattle.hr_records.proofs.LeadLemmas.{none_for_gone, refused_all}
 use Rattle.hr_calls.specs.Callers.{AreFollowUps}
 use Rattle.hr_causes.proofs.EndLemmas.{opened_before}
 
-if_lost : (b : Bool) (q r : ℕ) (o : Option ℕ) → (if b then other_than q o else o) ≡ Some r → o ≡ Some r
-if_lost true q r o e = (other_is q r o e).0
-if_lost false q r o e = e
-
-not_false : (b : Bool) → not b ≡ true → b ≡ false
-not_false true e = cc
-not_false false e = refl
-
 elected_unconvicted : (f q : ℕ) (h : History) → IsElected (view_of f h) (turn_of h) q → is_convicted q h ≡ false
 elected_unconvicted f q h is =
     sym (ap (λ (p : Progress). p.convicted) (replica_lookup f q h is.replica))
-    ∙ not_false (replica_in (view_of f h) q).convicted (and_parts (not (replica_in (view_of f h) q).lost) (not (replica_in (view_of f h) q).convicted) is.live).1
+    ∙ not-true (replica_in (view_of f h) q).convicted (and_parts (not (replica_in (view_of f h) q).lost) (not (replica_in (view_of f h) q).convicted) is.live).1
 
 unconvicted_by : (f s c r : ℕ) (e : Event) (h : History) → Begun f s (record { caller = c; event = e } ∷ h) → (primary_of h ≡ Some r → is_convicted r h ≡ false)
     → primary_of (record { caller = c; event = e } ∷ h) ≡ Some r → is_convicted r (record { caller = c; event = e } ∷ h) ≡ false

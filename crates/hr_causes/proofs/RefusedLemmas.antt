@@ -1,5 +1,6 @@
 -- After a turn, who has a cause to be refused is refused.
-use Rattle.std.proofs.Common.{◌≡◌, ℕ, Bool, true, false, ◌&&◌, Some, None, is_some, length, option_and_then, refl, ap, sym, ◌∙◌}
+use Rattle.std.proofs.Common.{◌≡◌, ℕ, true, false, ◌&&◌, Some, None, is_some, length, option_and_then, refl, ap, sym, ◌∙◌}
+use Rattle.std.proofs.lemmas.Bool.{false_from_ne_true}
 use Rattle.hr_base.specs.Lists.{when}
 use Rattle.hr_engine.specs.declared.reply.RunReply.{RunReply}
 use Rattle.hr_engine.specs.declared.reply.RunReply.TheVariants as run
@@ -49,9 +50,5 @@ cause_refuses f s t (cause.PrimaryChanged from because at) h faithful has born o
     refused_all f h (none_for_gone f h (nothing_after f s h faithful)) (ap (λ x. is_some x) has) t born o
 cause_refuses f s t (cause.Differ index by at) h faithful has born o = none_contradicted (view_of f h) (turn_of h) (nothing_after f s h faithful) t has.0
 
-closed_by : (b : Bool) → (b ≡ true → ⊥) → b ≡ false
-closed_by true n = absurd (n refl)
-closed_by false n = refl
-
 pub refused_by : (f s t : ℕ) (c : CauseAt) (h : History) → Faithful f s h → HasCause (view_of f h) (turn_of h) t c → IsBorn (length (begun h)) t → is_open (phase_of t h) ≡ false
-refused_by f s t c h faithful has born = closed_by (is_open (phase_of t h)) (λ o. cause_refuses f s t c h faithful has born o)
+refused_by f s t c h faithful has born = false_from_ne_true (is_open (phase_of t h)) (λ o. cause_refuses f s t c h faithful has born o)

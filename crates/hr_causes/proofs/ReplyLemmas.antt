@@ -1,5 +1,5 @@
 -- A refusal for the primary's reply: that is the turn's call, and the primary was the primary then.
-use Rattle.std.proofs.Common.{◌≡◌, ℕ, ◌+◌, ◌*◌, ◌<◌, true, false, if◌then◌else◌, Some, List, [], ◌∷◌, ◌++◌, length, refl, ap, sym, ◌∙◌, subst, IsTrue}
+use Rattle.std.proofs.Common.{◌≡◌, ℕ, ◌+◌, ◌*◌, ◌<◌, true, false, if◌then◌else◌, Some, List, ◌∷◌, ◌++◌, length, refl, ap, sym, ◌∙◌, subst, IsTrue}
 use Rattle.hr_base.specs.Lists.{last_of}
 use Rattle.hr_engine.specs.declared.reply.RunReply.{RunReply}
 use Rattle.hr_engine.specs.declared.reply.RunReply.TheVariants as run

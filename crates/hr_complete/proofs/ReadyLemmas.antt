@@ -1,9 +1,7 @@
 -- What f + 1 correct replicas are ready for is decided.
-use Rattle.std.proofs.Common.{◌≡◌, inl, inr, ℕ, suc, ◌+◌, ◌*◌, ◌<◌, ◌≤◌, Bool, true, false, cond, ◌&&◌, nat_le, count_by, List, [], ◌∷◌, length, refl, ap, sym, ◌∙◌, arith}
-use Rattle.std.proofs.lemmas.List.Sums.{sum_by-cons}
-use Rattle.std.proofs.lemmas.Bool.{and_parts, le-leb}
+use Rattle.std.proofs.Common.{◌≡◌, inl, inr, ℕ, ◌+◌, ◌*◌, ◌<◌, ◌≤◌, Bool, true, false, ◌&&◌, nat_le, count_by, List, [], ◌∷◌, length, refl, ap, sym, ◌∙◌, arith}
+use Rattle.std.proofs.lemmas.Bool.{and_parts, le-leb, false_from_ne_true}
 use Rattle.hr_base.specs.Lists.{has}
-use Rattle.hr_base.proofs.ListLaws.{has_head, has_tail}
 use Rattle.hr_rel.specs.Database.{Database}
 use Rattle.hr_history.specs.History.{History}
 use Rattle.hr_history.specs.ReplicaNumbers.{replica_numbers}
@@ -18,37 +16,15 @@ use Rattle.hr_history.specs.Words.{IsReady}
 use Rattle.hr_history.specs.Faithful.{is_begun, Begun, Faithful, Correct}
 use Rattle.hr_records.specs.Numbers.{IsBorn}
 use Rattle.hr_records.specs.Kept.{Kept}
+use Rattle.hr_records.proofs.Counts.{more_pass}
 use Rattle.hr_records.proofs.Options.{has_range}
-use Rattle.hr_records.proofs.Born.{born_or_not}
-use Rattle.hr_records.proofs.NumberSteps.{not_both}
 use Rattle.hr_records.proofs.ViewWords.{phase_seen}
-use Rattle.hr_records.proofs.KeptLemmas.{kept}
+use Rattle.hr_records.proofs.KeptLemmas.{kept, asked_born}
 use Rattle.hr_decisions.specs.Groups.{IsGroup}
 use Rattle.hr_decisions.proofs.DecisionLemmas.{none_decidable, nothing_after}
 use Rattle.hr_convictions.proofs.ContradictedLemmas.{ready_equal}
 use Rattle.hr_complete.specs.Undisturbed.{IsUndisturbed, IsLed}
 use Rattle.hr_complete.proofs.LedLemmas.{stays, undisturbed_led}
-use Rattle.hr_complete.proofs.UnaskedLemmas.{is_false}
-
--- a test that passes wherever another does passes as often, or more
-more_pass : (p q : ℕ → Bool) (xs : List ℕ) → ((x : ℕ) → has xs x ≡ true → p x ≡ true → q x ≡ true) → count_by p xs ≤ count_by q xs
-more_pass p q [] all = omega arith
-more_pass p q (x ∷ xs) all =
-    let rest = more_pass p q xs (λ y there e. all y (has_tail y x xs there) e) in
-    omega (arith, rest, sum_by-cons (λ y. cond (p y) 1 0) x xs, sum_by-cons (λ y. cond (q y) 1 0) x xs, here (p x) (q x) (all x (has_head x xs)))
-  where
-    here : (a b : Bool) → (a ≡ true → b ≡ true) → cond a 1 0 ≤ cond b 1 0
-    here true true e = omega arith
-    here true false e = absurd (wrong (e refl))
-      where
-        wrong : false ≡ true → ⊥
-        wrong d = cc d
-    here false true e = omega arith
-    here false false e = omega arith
-
--- who has asked for a commit has begun
-asked_born : (t : ℕ) (h : History) → Kept h → is_asked (phase_of t h) ≡ true → IsBorn (length (begun h)) t
-asked_born t h k asked = elim (born_or_not (length (begun h)) t) [ inl born ↦ born | inr unborn ↦ absurd (not_both (is_asked (phase_of t h)) asked (ap is_asked (k.numbers.unborn t unborn).0)) ]
 
 module _ (f s t : ℕ) (db : Database) (group : ℕ → Bool) (h : History) (faithful : Faithful f s h) (led : IsLed f db h) (many : IsGroup f group) (its : (r : ℕ) → r < 2 * f + 1 → group r ≡ true → Correct db h r × IsReady f h t r)
     (asked : is_asked (phase_of t h) ≡ true) where
@@ -77,7 +53,7 @@ module _ (f s t : ℕ) (db : Database) (group : ℕ → Bool) (h : History) (fai
   not_left = none_decidable (view_of f h) (turn_of h) (nothing_after f s h faithful) t decidable
 
 pub decided : (f s t : ℕ) (db : Database) (group : ℕ → Bool) (h : History) → Faithful f s h → IsLed f db h → IsGroup f group → ((r : ℕ) → r < 2 * f + 1 → group r ≡ true → Correct db h r × IsReady f h t r) → is_asked (phase_of t h) ≡ false
-decided f s t db group h faithful led many its = is_false (is_asked (phase_of t h)) (λ asked. not_left f s t db group h faithful led many its asked)
+decided f s t db group h faithful led many its = false_from_ne_true (is_asked (phase_of t h)) (λ asked. not_left f s t db group h faithful led many its asked)
 
 -- where all are correct, all that are ready count
 pub decided_by_ready : (f s t : ℕ) (db : Database) (h : History) → Faithful f s h → IsUndisturbed f db h → IsGroup f (is_ready (view_of f h) t) → is_asked (phase_of t h) ≡ false

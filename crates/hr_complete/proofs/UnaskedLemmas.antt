@@ -1,5 +1,6 @@
 -- The primary's Deadlock, or want of memory, is no reply to a transaction whose commit was asked for.
 use Rattle.std.proofs.Common.{◌≡◌, ◌⊎◌, inl, inr, ℕ, ◌+◌, ◌≤◌, Bool, true, false, ◌==◌, if◌then◌else◌, Some, List, [], ◌∷◌, ◌++◌, length, refl, ap, sym, ◌∙◌, subst, arith}
+use Rattle.std.proofs.lemmas.Bool.{false_from_ne_true}
 use Rattle.hr_engine.specs.declared.reply.RunReply.{RunReply}
 use Rattle.hr_history.specs.declared.cause.CauseAt.{CauseAt}
 use Rattle.hr_history.specs.declared.cause.CauseAt.TheVariants as cause
@@ -16,10 +17,9 @@ use Rattle.hr_history.specs.Given.{given_to}
 use Rattle.hr_history.specs.Faithful.{Begun}
 use Rattle.hr_records.specs.Kept.{Kept}
 use Rattle.hr_records.proofs.Places.{numbered_some}
-use Rattle.hr_records.proofs.NumberSteps.{not_both}
+use Rattle.hr_records.proofs.NumberSteps.{not_both, asked_balance}
 use Rattle.hr_records.proofs.RuleLemmas.{begun_before, begun_until}
 use Rattle.hr_records.proofs.KeptLemmas.{kept}
-use Rattle.hr_barriers.proofs.WholeLemmas.{asked_balance}
 use Rattle.hr_calls.specs.Callers.{AreFollowUps}
 use Rattle.hr_causes.specs.Causes.{PrimaryReplied}
 use Rattle.hr_causes.proofs.ReplyLemmas.{memory_shown, deadlock_shown}
@@ -71,9 +71,5 @@ unasked f s c t x h b (inr it) a =
     let shown = memory_shown f s c t it.0 h (subst (λ y. Begun f s (record { caller = c; event = event.Refuse t y } ∷ h)) it.1 b) in
     unasked_by f s t it.0 shown.replica _ shown.older h (begun_before f s record { caller = c; event = event.Refuse t x } h b) shown.replied a
 
-pub is_false : (b : Bool) → (b ≡ true → ⊥) → b ≡ false
-is_false true n = absurd (n refl)
-is_false false n = refl
-
 pub never_asked : (f s c t : ℕ) (x : CauseAt) (h : History) → Begun f s (record { caller = c; event = event.Refuse t x } ∷ h) → IsPrimarysReply x → is_asked (phase_of t h) ≡ false
-never_asked f s c t x h b is = is_false (is_asked (phase_of t h)) (unasked f s c t x h b is)
+never_asked f s c t x h b is = false_from_ne_true (is_asked (phase_of t h)) (unasked f s c t x h b is)

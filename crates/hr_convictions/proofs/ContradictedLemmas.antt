@@ -24,7 +24,7 @@ use Rattle.hr_records.proofs.Options.{find_has}
 use Rattle.hr_records.proofs.Places.{numbered_some}
 use Rattle.hr_records.proofs.Counts.{one_outside}
 use Rattle.hr_records.proofs.Beginnings.{begins_whole}
-use Rattle.hr_records.proofs.NumberSteps.{not_both, open_unlogged}
+use Rattle.hr_records.proofs.NumberSteps.{not_both, open_unlogged, asked_balance}
 use Rattle.hr_records.proofs.RuleLemmas.{asked_is_open}
 use Rattle.hr_records.proofs.ReplicaSteps.{statements_many}
 use Rattle.hr_records.proofs.SameLists.{same_lists}
@@ -37,7 +37,6 @@ use Rattle.hr_barriers.specs.Played.{IsProcessedTo, IsNoneOfTheFirst}
 use Rattle.hr_barriers.proofs.PlayedLemmas.{played}
 use Rattle.hr_barriers.proofs.GivenLemmas.{given_by_primary}
 use Rattle.hr_barriers.proofs.ProcessedLemmas.{primary_within, primary_processed}
-use Rattle.hr_barriers.proofs.WholeLemmas.{asked_balance}
 use Rattle.hr_barriers.proofs.CanonicalLemmas.{attempt_canonical, given_canonical, equal_by}
 
 module _ (f s p t : ℕ) (db : Database) (h : History) (b : Begun f s h) (k : Kept h) (lead : primary_of h ≡ Some p) (correct : Correct db h p) (born : IsBorn (length (begun h)) t) (asked : is_asked (phase_of t h) ≡ true) where

@@ -1,6 +1,6 @@
 -- A correct replica's counts pass their test.
 use Rattle.std.proofs.Common.{◌≡◌, ◌⊎◌, inl, inr, ℕ, ◌+◌, Bool, true, false, not, ◌&&◌, ◌==◌, Option, Some, None, is_some, IsSome, Ok, List, [], ◌∷◌, length, refl, ap, sym, ◌∙◌, subst}
-use Rattle.std.proofs.lemmas.Bool.{eq-eqb}
+use Rattle.std.proofs.lemmas.Bool.{eq-eqb, not-true}
 use Rattle.hr_base.specs.Lists.{when, last_of}
 use Rattle.hr_base.specs.Counters.{shown}
 use Rattle.hr_base.proofs.Tests.{or_first, or_second}
@@ -33,10 +33,6 @@ record ToldCount (bad : Counted) (h : History) : Type 0 where
   journal : journal_of bad.replica h ≡ Restarted (Ok bad.count) ∷ journal_of bad.replica older
   fails : is_sound_count bad.count (journal_of bad.replica older) ≡ false
 
-not_true : (b : Bool) → not b ≡ true → b ≡ false
-not_true true e = cc e
-not_true false e = refl
-
 told_now : (f s c q n : ℕ) (h : History) (bad : Counted) → Begun f s (record { caller = c; event = event.Restarted q n } ∷ h)
     → when (not (is_sound_count n (journal_of q h))) record { replica = q; count = n } ≡ Some bad → ToldCount bad (record { caller = c; event = event.Restarted q n } ∷ h)
 told_now f s c q n h bad b e =
@@ -45,7 +41,7 @@ told_now f s c q n h bad b e =
     subst (λ (x : Counted). ToldCount x (record { caller = c; event = event.Restarted q n } ∷ h)) it.1 record {
       older = h;
       journal = ap (λ x. next_journal (restart_if x q n (λ p. out_at p h)) (journal_of q h)) (eq-eqb q q refl) ∙ ap (λ o. next_journal (restart_of o n) (journal_of q h)) out;
-      fails = not_true (is_sound_count n (journal_of q h)) it.0;
+      fails = not-true (is_sound_count n (journal_of q h)) it.0;
     }
 
 told_before : (e : Entry) (h : History) (bad : Counted) → journal_of bad.replica (e ∷ h) ≡ journal_of bad.replica h → ToldCount bad h → ToldCount bad (e ∷ h)

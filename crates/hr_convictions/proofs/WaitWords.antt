@@ -2,15 +2,11 @@
 -- and no chain to the asker needs that.
 use Rattle.std.proofs.Common.{◌≡◌, ℕ, Bool, true, false, not, ◌&&◌, ◌==◌, List, [], ◌∷◌, ◌++◌, refl, ap, sym, ◌∙◌}
 use Rattle.std.specs.List.{list_all}
-use Rattle.std.proofs.lemmas.Bool.{and_parts, eqb-true, eq-eqb}
+use Rattle.std.proofs.lemmas.Bool.{and_parts, eqb-true, eq-eqb, not-true}
 use Rattle.hr_base.specs.Lists.{has, is_empty, is_distinct, is_ascending}
 use Rattle.hr_base.proofs.ListLaws.{all_agree_on}
 use Rattle.hr_base.proofs.Tests.{or_false}
 use Rattle.hr_engine.specs.Waits.{is_chain, Leads, IsSoundBlocked, is_sound_deadlock}
-
-not_false : (b : Bool) → not b ≡ true → b ≡ false
-not_false true e = cc e
-not_false false e = refl
 
 apart_from : (u t : ℕ) → (u == t) ≡ false → u ≡ t → ⊥
 apart_from u t e same = cc (eq-eqb u t same, e)
@@ -35,7 +31,7 @@ module _ (p q : ℕ → Bool) (w x : ℕ → List ℕ) (t : ℕ) (runs : (u : �
   pub sound_blocked_after : (named : List ℕ) → IsSoundBlocked q x t named → IsSoundBlocked p w t named
   sound_blocked_after named sound =
       let front = and_parts (not (is_empty named) && is_ascending named && not (has named t)) (list_all q named) sound.listed in
-      let none = not_false (has named t) (and_parts (not (is_empty named) && is_ascending named) (not (has named t)) front.0).1 in
+      let none = not-true (has named t) (and_parts (not (is_empty named) && is_ascending named) (not (has named t)) front.0).1 in
       record {
         listed = λ i. front.0 i && (all_agree_on p q named (λ u there. runs u) ∙ front.1) i;
         no_cycle = λ u there leads. sound.no_cycle u there (to_asker u leads.0 (is_other named t u none there) leads.1);
@@ -57,5 +53,5 @@ module _ (p q : ℕ → Bool) (w x : ℕ → List ℕ) (t : ℕ) (runs : (u : �
       let all = and_parts ((first == t) && not (is_empty others) && is_distinct (first ∷ others)) (list_all q others) chain.0 in
       let front = and_parts ((first == t) && not (is_empty others)) (is_distinct (first ∷ others)) all.0 in
       let asker = eqb-true first t (and_parts (first == t) (not (is_empty others)) front.0).0 in
-      let none = ap (has others) (sym asker) ∙ not_false (has others first) (and_parts (not (has others first)) (is_distinct others) front.1).0 in
+      let none = ap (has others) (sym asker) ∙ not-true (has others first) (and_parts (not (has others first)) (is_distinct others) front.1).0 in
       λ i. all.0 i && (all_agree_on p q others (λ u there. runs u) ∙ all.1) i && chain_after others none chain.1 i

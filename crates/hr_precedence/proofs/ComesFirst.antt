@@ -1,42 +1,35 @@
 -- What follows comes first of its kind, and none of what comes before its kind is due.
-use Rattle.std.proofs.Common.{◌≡◌, inl, inr, ℕ, ◌+◌, ◌<◌, ◌≤◌, Bool, true, false, ◌&&◌, ◌||◌, ◌==◌, nat_lt, nat_le, Option, Some, None, is_none, not, is_some, option_and_then, filter, find, count_by, [], ◌∷◌, length, refl, ap, sym, ◌∙◌, arith}
-use Rattle.std.proofs.lemmas.Bool.{and_parts, or_left, lt-ltb, ltb-false}
-use Rattle.hr_base.specs.Lists.{has, last_of, when}
+use Rattle.std.proofs.Common.{◌≡◌, ℕ, ◌+◌, ◌≤◌, Bool, true, false, ◌&&◌, nat_lt, nat_le, Option, Some, None, is_none, is_some, option_and_then, filter, count_by, ◌∷◌, length, refl, ap, sym, ◌∙◌, arith}
+use Rattle.std.proofs.lemmas.Bool.{and_parts, ltb-false}
+use Rattle.hr_base.specs.Lists.{has, when}
 use Rattle.hr_base.proofs.Tests as tests
-use Rattle.hr_engine.specs.declared.reply.RunReply.{RunReply}
-use Rattle.hr_engine.specs.declared.reply.RunReply.TheVariants as run
 use Rattle.hr_history.specs.declared.cause.CauseAt.TheVariants as cause
 use Rattle.hr_history.specs.declared.entry.Entry.{Entry}
 use Rattle.hr_history.specs.declared.entry.Event.{Event}
 use Rattle.hr_history.specs.declared.entry.Event.TheVariants as event
-use Rattle.hr_history.specs.declared.phase.Fresh.{Fresh}
 use Rattle.hr_history.specs.declared.phase.Phase.{Phase}
 use Rattle.hr_history.specs.declared.phase.Phase.TheVariants as phase
 use Rattle.hr_history.specs.History.{History, is_call}
 use Rattle.hr_history.specs.Primary.{primary_of}
 use Rattle.hr_history.specs.ReplicaNumbers.{replica_numbers}
-use Rattle.hr_history.specs.Transactions.{begun, phase_of, is_open, is_asked}
-use Rattle.hr_history.specs.Turn.{Turn, Contradiction, Gone, turn_of, went}
+use Rattle.hr_history.specs.Transactions.{phase_of, is_asked}
+use Rattle.hr_history.specs.Turn.{Turn, Gone, turn_of, went}
 use Rattle.hr_history.specs.View.{View, view_of}
-use Rattle.hr_history.specs.Processed.{phase_in, replica_in, is_primary, candidate_in, is_caught_up}
-use Rattle.hr_history.specs.Ranks.{rank_of, rank_by, is_before, ranks_before, first_in_rank}
-use Rattle.hr_history.specs.Votes.{agrees, is_decidable, is_contradicted, contradicted_by, difference_at}
+use Rattle.hr_history.specs.Processed.{phase_in, candidate_in, is_caught_up}
+use Rattle.hr_history.specs.Ranks.{rank_of, rank_by, is_before, first_in_rank}
+use Rattle.hr_history.specs.Votes.{agrees, is_decidable, is_contradicted, contradicted_by}
 use Rattle.hr_history.specs.Jobs.{txn_numbers}
-use Rattle.hr_history.specs.Preemption.{preempted_next}
-use Rattle.hr_history.specs.Evidence.{evidence_of}
-use Rattle.hr_history.specs.Rules.{convict_with, owed_conviction, conviction_of, convict, refuse_for, primary_gone, cause_by, refuse_after, primary_reply, decide, refuse_as_differ, differ, answer_place, new_primary, preemption_at, preempt, due_in, due}
+use Rattle.hr_history.specs.Rules.{primary_gone, decide, new_primary, due_in, due}
 use Rattle.hr_history.specs.Words.{IsDecidable, IsContradicted}
 use Rattle.hr_history.specs.Faithful.{Begun}
-use Rattle.hr_records.specs.Numbers.{IsBorn}
 use Rattle.hr_records.specs.Kept.{Kept}
-use Rattle.hr_records.proofs.Options.{On, on_some, when_on, first_on, then_on, map_on, first_of_on, in_range, some_none, none_mapped}
-use Rattle.hr_records.proofs.Born.{born_or_not}
-use Rattle.hr_records.proofs.NumberSteps.{not_both}
-use Rattle.hr_records.proofs.KeptLemmas.{kept, decided_asked}
+use Rattle.hr_records.proofs.Options.{On, on_some, in_range, some_none, none_mapped}
+use Rattle.hr_records.proofs.KeptLemmas.{kept, asked_born, decided_asked}
 use Rattle.hr_records.proofs.RuleLemmas.{begun_before, was_due, by_rule, asked_is_open}
 use Rattle.hr_records.proofs.LeadLemmas.{refused_all}
 use Rattle.hr_records.proofs.ViewWords.{open_txn, txn_born, phase_seen}
 use Rattle.hr_decisions.proofs.DecisionLemmas.{none_passes}
+use Rattle.hr_causes.proofs.DueLemmas.{due_on}
 use Rattle.hr_precedence.proofs.FirstInRank.{first_is}
 
 -- WHAT COMES BEFORE
@@ -49,69 +42,23 @@ ComesFirst v turn (event.Refuse t (cause.Differ index by at)) = (decide v turn �
 ComesFirst v turn (event.Preempt r t) = new_primary v turn ≡ None
 ComesFirst v turn _ = Unit {0}
 
-module _ (v : View) (turn : Turn) where
-  abbrev P : Event → Type 0
-  P e = ComesFirst v turn e
-
-  by_owed : On P (owed_conviction v turn)
-  by_owed = then_on P (convict_with v.primary) turn.owed (λ c owed. of_primary v.primary c)
-    where
-      of_primary : (o : Option ℕ) (c : Contradiction) → On P (convict_with o c)
-      of_primary None c = tt
-      of_primary (Some p) c = tt
-
-  by_evidence : On P (convict v turn)
-  by_evidence = first_of_on P (conviction_of v turn) (replica_numbers v.f) (λ r there.
-      then_on P (λ e. when (not (replica_in v r).convicted) (event.Convict r e)) (evidence_of v r turn) (λ e shown.
-      when_on P (not (replica_in v r).convicted) (event.Convict r e) (λ un. tt)))
-
-  by_gone : On P (primary_gone v turn)
-  by_gone = then_on P (refuse_for v turn) turn.went (λ gone went.
-      map_on P (λ t. event.Refuse t (cause.PrimaryChanged gone.from gone.why gone.at)) (find (λ t. is_open (phase_in v t)) (txn_numbers v)) (λ t found. tt))
-
-  by_reply : On P (primary_reply v turn)
-  by_reply = then_on P (refuse_after v turn) v.fresh (λ fresh is. of_reply fresh (last_of v.replies))
-    where
-      of_reply : (fresh : Fresh) (o : Option RunReply) → On P (option_and_then (λ c. when (is_primary v fresh.replica && is_open (phase_in v fresh.txn)) (event.Refuse fresh.txn c)) (cause_by v turn o))
-      of_reply fresh None = tt
-      of_reply fresh (Some (run.Done answer)) = tt
-      of_reply fresh (Some (run.Blocked named)) = tt
-      of_reply fresh (Some run.Lost) = tt
-      of_reply fresh (Some (run.Deadlock cycle)) = when_on P (is_primary v fresh.replica && is_open (phase_in v fresh.txn)) (event.Refuse fresh.txn (cause.Deadlock turn.start)) (λ both. tt)
-      of_reply fresh (Some run.NoMemory) = when_on P (is_primary v fresh.replica && is_open (phase_in v fresh.txn)) (event.Refuse fresh.txn (cause.PrimaryMemory turn.start)) (λ both. tt)
-
-  by_votes : primary_gone v turn ≡ None → On P (decide v turn)
-  by_votes none = map_on P (λ t. event.Decide t) (first_in_rank v (filter (is_decidable v) (txn_numbers v))) (λ t first. (none, first))
-
-  by_contradiction : decide v turn ≡ None → On P (differ v turn)
-  by_contradiction none = then_on P (refuse_as_differ v turn) (first_in_rank v (filter (is_contradicted v) (txn_numbers v))) (λ t first.
-      map_on P (λ r. event.Refuse t (cause.Differ (difference_at v r t) r (answer_place v turn r t (difference_at v r t)))) (contradicted_by v t) (λ r by. (none, first)))
-
-  by_vacancy : On P (new_primary v turn)
-  by_vacancy = then_on P (λ r. when (is_none v.primary && is_caught_up v r) (event.NewPrimary r)) (candidate_in v) (λ r candidate.
-      when_on P (is_none v.primary && is_caught_up v r) (event.NewPrimary r) (λ both. tt))
-
-  by_waits : new_primary v turn ≡ None → On P (preempt v turn)
-  by_waits none = first_of_on P (preemption_at v turn) (replica_numbers v.f) (λ r there. map_on P (λ t. event.Preempt r t) (preempted_next v r) (λ t next. none))
-
-  due_first : On P (due_in v turn)
-  due_first =
-      first_on P (owed_conviction v turn) _ by_owed (λ a.
-      first_on P (convict v turn) _ by_evidence (λ b.
-      first_on P (primary_gone v turn) _ by_gone (λ c.
-      first_on P (primary_reply v turn) _ by_reply (λ d.
-      first_on P (decide v turn) _ (by_votes c) (λ e.
-      first_on P (differ v turn) _ (by_contradiction e) (λ g.
-      first_on P (new_primary v turn) _ by_vacancy (λ k.
-      first_on P (preempt v turn) [] (by_waits k) (λ l. tt))))))))
+due_first : (v : View) (turn : Turn) → On (ComesFirst v turn) (due_in v turn)
+due_first v turn =
+    due_on v turn (ComesFirst v turn) record {
+      convicts = λ r x. tt;
+      gone = λ t from because at. tt;
+      deadlock = λ t at. tt;
+      memory = λ t at. tt;
+      decides = λ none t first. (none, first);
+      differs = λ none t by first. (none, first);
+      elects = λ r. tt;
+      preempts = λ none r t. none;
+    }
 
 follows_first : (f s : ℕ) (e : Entry) (h : History) → Begun f s (e ∷ h) → is_call e.event ≡ false → ComesFirst (view_of f h) (turn_of h) e.event
 follows_first f s e h b n = on_some (ComesFirst (view_of f h) (turn_of h)) (due f h) e.event (was_due f s e h b n) (due_first (view_of f h) (turn_of h))
 
 -- IN THE ORDER OF ASKING
-asked_born : (t : ℕ) (h : History) → Kept h → is_asked (phase_of t h) ≡ true → IsBorn (length (begun h)) t
-asked_born t h k asked = elim (born_or_not (length (begun h)) t) [ inl born ↦ born | inr unborn ↦ absurd (not_both (is_asked (phase_of t h)) asked (ap is_asked (k.numbers.unborn t unborn).0)) ]
-
 asked_later : (p q : Phase) (t u n m : ℕ) → p ≡ phase.Asked n → q ≡ phase.Asked m → (is_before (rank_by q u) (rank_by p t) ≡ true → ⊥) → n ≤ m
 asked_later p q t u n m e d never = by_test (nat_lt m n) refl
   where

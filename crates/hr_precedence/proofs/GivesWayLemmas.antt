@@ -1,7 +1,7 @@
 -- Who is preempted, and why.
-use Rattle.std.proofs.Common.{◌≡◌, ◌⊎◌, inl, inr, ℕ, ◌+◌, ◌*◌, ◌<◌, Bool, true, false, not, ◌&&◌, ◌||◌, ◌==◌, Option, Some, None, List, [], ◌∷◌, length, refl, ap, sym, ◌∙◌}
+use Rattle.std.proofs.Common.{◌≡◌, ◌⊎◌, inl, inr, ℕ, ◌+◌, ◌*◌, ◌<◌, Bool, true, false, not, ◌&&◌, ◌||◌, Option, Some, None, List, [], ◌∷◌, length, refl, ap, sym, ◌∙◌}
 use Rattle.std.specs.List.{list_any, list_all}
-use Rattle.std.proofs.lemmas.Bool.{and_parts, or_cases, eq-eqb}
+use Rattle.std.proofs.lemmas.Bool.{and_parts, or_cases, eq-eqb, not-true}
 use Rattle.hr_base.specs.Lists.{has}
 use Rattle.hr_base.proofs.ListLaws.{has_head, has_tail, all_has}
 use Rattle.hr_engine.specs.Attempts.{is_running}
@@ -14,15 +14,12 @@ use Rattle.hr_history.specs.History.{History}
 use Rattle.hr_history.specs.Transactions.{begun, phase_of, is_logged, is_asked, is_ended}
 use Rattle.hr_history.specs.Replicas.{journal_of}
 use Rattle.hr_history.specs.Primary.{primary_of, is_some_of}
-use Rattle.hr_history.specs.Attempts.{is_preempted}
-use Rattle.hr_history.specs.Turn.{turn_of}
-use Rattle.hr_history.specs.View.{View, view_of}
-use Rattle.hr_history.specs.Processed.{phase_in, attempt_in, runs_in, wait_in, standing_in, is_primary}
+use Rattle.hr_history.specs.View.{view_of}
+use Rattle.hr_history.specs.Processed.{phase_in, attempt_in, runs_in, wait_in, is_primary}
 use Rattle.hr_history.specs.Ranks.{ranks_before}
 use Rattle.hr_history.specs.Jobs.{txn_numbers}
-use Rattle.hr_history.specs.Preemption.{stays, is_held_up, is_last_in_rank, gives_way_in, is_last_of_cycle, is_to_give_way}
+use Rattle.hr_history.specs.Preemption.{stays, is_held_up, is_last_in_rank, gives_way_in, is_last_of_cycle}
 use Rattle.hr_history.specs.Faithful.{Begun}
-use Rattle.hr_records.specs.ByRule.{GivesWay}
 use Rattle.hr_records.specs.Numbers.{IsBorn}
 use Rattle.hr_records.specs.Kept.{Kept}
 use Rattle.hr_records.proofs.Born.{born_or_not}
@@ -34,10 +31,6 @@ use Rattle.hr_convictions.proofs.ReplyWords.{runs_seen}
 use Rattle.hr_precedence.specs.Ends.{HasToEnd}
 use Rattle.hr_precedence.specs.GivesWay.{IsInTheWay, IsLastOfCycle}
 use Rattle.hr_precedence.proofs.WaitsKept.{standing_seen, waited_for}
-
-not_false : (b : Bool) → not b ≡ true → b ≡ false
-not_false true e = cc e
-not_false false e = refl
 
 any_by : (p : ℕ → Bool) (x : ℕ) (xs : List ℕ) → (p x ≡ true) ⊎ (list_any p xs ≡ true) → (list_any p xs ≡ true → (y : ℕ) × (has xs y ≡ true) × (p y ≡ true)) → (y : ℕ) × (has (x ∷ xs) y ≡ true) × (p y ≡ true)
 any_by p x xs (inl here) rest = (x, has_head x xs, here)
@@ -65,8 +58,8 @@ module _ (f r : ℕ) (h : History) (k : Kept h) (lt : r < 2 * f + 1) where
   stays_on : (u : ℕ) → stays (view_of f h) r u ≡ true → HasToEnd r u h → ⊥
   stays_on u is ends =
       let two = and_parts (not (is_ended (phase_in (view_of f h) u))) (not (attempt_in (view_of f h) r u).preempted) is in
-      let open_there = not_false (is_ended (phase_in (view_of f h) u)) two.0 in
-      let not_told = not_false (attempt_in (view_of f h) r u).preempted two.1 in
+      let open_there = not-true (is_ended (phase_in (view_of f h) u)) two.0 in
+      let not_told = not-true (attempt_in (view_of f h) r u).preempted two.1 in
       by_case open_there not_told ends
     where
       by_case : is_ended (phase_in (view_of f h) u) ≡ false → (attempt_in (view_of f h) r u).preempted ≡ false → HasToEnd r u h → ⊥
@@ -99,7 +92,7 @@ module _ (f r : ℕ) (h : History) (k : Kept h) (lt : r < 2 * f + 1) where
         stands = e;
         member = last.0;
         stay = λ w there. stays_on w (all_has (stays v r) cycle two.0 w there);
-        last = λ w there. not_false (ranks_before v t w) (all_has (λ x. not (ranks_before v t x)) cycle last.1 w there);
+        last = λ w there. not-true (ranks_before v t w) (all_has (λ x. not (ranks_before v t x)) cycle last.1 w there);
       }
 
   last_of : (t u : ℕ) → is_last_of_cycle (view_of f h) r t u ≡ true → IsLastOfCycle f r t h

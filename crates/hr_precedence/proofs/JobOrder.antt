@@ -1,6 +1,6 @@
 -- The order of a replica's jobs.
-use Rattle.std.proofs.Common.{◌≡◌, ◌⊎◌, inl, inr, ⊎_elim, ℕ, ◌+◌, ◌*◌, ◌<◌, Bool, true, false, ◌&&◌, ◌||◌, if◌then◌else◌, Option, Some, None, is_some, option_map, option_and_then, find, [], ◌∷◌, length, refl, ap, sym, ◌∙◌, arith}
-use Rattle.hr_base.specs.Lists.{has, first_some, when}
+use Rattle.std.proofs.Common.{◌≡◌, inl, inr, ℕ, ◌+◌, ◌*◌, ◌<◌, Bool, true, false, ◌&&◌, ◌||◌, if◌then◌else◌, Option, Some, None, is_some, option_map, option_and_then, find, [], ◌∷◌, length, refl, ap, sym, ◌∙◌, arith}
+use Rattle.hr_base.specs.Lists.{first_some, when}
 use Rattle.hr_base.proofs.Tests.{or_first, or_second}
 use Rattle.hr_history.specs.declared.job.Job.{Job}
 use Rattle.hr_history.specs.declared.job.Job.TheVariants as job
@@ -10,12 +10,10 @@ use Rattle.hr_history.specs.Transactions.{begun, phase_of, is_ended}
 use Rattle.hr_history.specs.Replicas.{journal_of}
 use Rattle.hr_history.specs.Attempts.{is_touched}
 use Rattle.hr_history.specs.View.{View, Progress, Attempt, view_of}
-use Rattle.hr_history.specs.Processed.{phase_in, replica_in, attempt_in, answers_in, given_in, is_whole, is_primary}
-use Rattle.hr_history.specs.Ranks.{first_in_rank}
+use Rattle.hr_history.specs.Processed.{phase_in, replica_in, attempt_in, answers_in, given_in, is_whole}
 use Rattle.hr_history.specs.Jobs.{txn_numbers, is_to_roll_back, rollback_job, next_in_log, commit_job, run_job, job_in}
 use Rattle.hr_history.proofs.StepLemmas.{replica_lookup}
 use Rattle.hr_history.proofs.AttemptSteps.{attempt_lookup}
-use Rattle.hr_records.specs.ByRule.{IsJobOf}
 use Rattle.hr_records.specs.Numbers.{IsBorn}
 use Rattle.hr_records.proofs.Options.{some_none, same_some, find_none, in_range}
 use Rattle.hr_records.proofs.NumberSteps.{not_both}

@@ -5,3 +5,4 @@ pub mod Owed
 pub mod Search
 pub mod WaitsKept
 pub mod GivesWayLemmas
+pub mod LiveVotes

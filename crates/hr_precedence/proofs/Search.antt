@@ -1,16 +1,12 @@
 -- The search for a candidate starts after the primary.
-use Rattle.std.proofs.Common.{◌≡◌, ℕ, Bool, true, false, if◌then◌else◌, Option, Some, None, [], ◌∷◌, refl, sym}
+use Rattle.std.proofs.Common.{◌≡◌, ℕ, Some, [], ◌∷◌, sym}
 use Rattle.hr_history.specs.declared.entry.Event.{Event}
 use Rattle.hr_history.specs.declared.entry.Event.TheVariants as event
 use Rattle.hr_history.specs.History.{History}
 use Rattle.hr_history.specs.Replicas.{tells_loss}
-use Rattle.hr_history.specs.Primary.{primary_of, other_than, search_after}
+use Rattle.hr_history.specs.Primary.{primary_of, search_after}
 use Rattle.hr_records.proofs.Options.{some_none, same_some}
-use Rattle.hr_records.proofs.PrimaryWords.{other_is}
-
-if_lost : (b : Bool) (q p : ℕ) (o : Option ℕ) → (if b then other_than q o else o) ≡ Some p → o ≡ Some p
-if_lost true q p o e = (other_is q p o e).0
-if_lost false q p o e = e
+use Rattle.hr_records.proofs.PrimaryWords.{other_is, if_lost}
 
 search_by : (f c p : ℕ) (e : Event) (h : History) → primary_of (record { caller = c; event = e } ∷ h) ≡ Some p → (primary_of h ≡ Some p → search_after f h ≡ p) → search_after f (record { caller = c; event = e } ∷ h) ≡ p
 search_by f c p (event.Give q told) h is rest = rest (if_lost (tells_loss told) q p (primary_of h) is)

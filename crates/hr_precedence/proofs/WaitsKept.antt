@@ -1,7 +1,7 @@
 -- A statement runs where nobody whom its transaction waits for runs, and no cycle of waits stands that it was told of.
-use Rattle.std.proofs.Common.{◌≡◌, ◌⊎◌, inl, inr, ⊎_elim, ℕ, ◌+◌, ◌*◌, ◌<◌, Bool, true, false, not, cond, ◌&&◌, ◌||◌, ◌==◌, nat_le, if◌then◌else◌, Option, Some, None, is_none, slice_get, filter, option_and_then, List, [], ◌∷◌, length, refl, ap, sym, ◌∙◌}
-use Rattle.std.specs.List.{list_any, list_all}
-use Rattle.std.proofs.lemmas.Bool.{and_parts, or_cases, or_left, eqb-true}
+use Rattle.std.proofs.Common.{◌≡◌, inl, inr, ℕ, ◌+◌, ◌*◌, ◌<◌, Bool, true, false, not, cond, ◌&&◌, ◌||◌, ◌==◌, nat_le, Option, Some, None, is_none, slice_get, filter, option_and_then, List, [], ◌∷◌, length, refl, ap, sym, ◌∙◌}
+use Rattle.std.specs.List.{list_any}
+use Rattle.std.proofs.lemmas.Bool.{and_parts, or_cases, eqb-true, not-true}
 use Rattle.hr_base.specs.Lists.{has, once}
 use Rattle.hr_base.proofs.ListLaws.{has_head, has_tail, has-filter}
 use Rattle.hr_base.proofs.Tests.{or_false, in_once, kept, kept_once}
@@ -16,8 +16,8 @@ use Rattle.hr_history.specs.Attempts.{last_told}
 use Rattle.hr_history.specs.Transactions.{is_open, is_logged}
 use Rattle.hr_history.specs.Turn.{fresh_of}
 use Rattle.hr_history.specs.View.{View, Attempt, view_of, is_fresh}
-use Rattle.hr_history.specs.Processed.{txn_in, phase_in, attempt_in, answers_in, runs_in, wait_in, standing_in, is_committed, processed_in, named_in, cycle_in}
-use Rattle.hr_history.specs.Jobs.{is_stamped_by, may_go_on, may_repeat, pending_index, may_run_first, job_in}
+use Rattle.hr_history.specs.Processed.{txn_in, phase_in, answers_in, runs_in, wait_in, standing_in, is_committed, processed_in, named_in, cycle_in}
+use Rattle.hr_history.specs.Jobs.{is_stamped_by, may_go_on, pending_index, job_in}
 use Rattle.hr_history.proofs.WaitLaws.{if_all_again, wait_of_last, standing_of_last}
 use Rattle.hr_history.proofs.AttemptSteps.{attempt_lookup}
 use Rattle.hr_records.specs.ByRule.{IsRunOf}
@@ -26,10 +26,6 @@ use Rattle.hr_records.proofs.JobLemmas.{job_rule}
 use Rattle.hr_convictions.proofs.ReplyWords.{runs_seen}
 
 -- WHERE NONE PASSES
-not_false : (b : Bool) → not b ≡ true → b ≡ false
-not_false true e = cc e
-not_false false e = refl
-
 none_any : (p : ℕ → Bool) (xs : List ℕ) → list_any p xs ≡ false → (y : ℕ) → has xs y ≡ true → p y ≡ false
 none_any p [] e y there = cc there
 none_any p (x ∷ xs) e y there =
@@ -106,7 +102,7 @@ module _ (f r t : ℕ) (h : History) (lt : r < 2 * f + 1) where
   kept_by on =
       let parts = and_parts (not (list_any (runs_in (view_of f h) r) (wait_in (view_of f h) r t))) (is_none (standing_in (view_of f h) r t)) on in
       let none : list_any (λ u. is_running u j) (named_in (last_told fresh t j)) ≡ false =
-      (λ i. list_any (λ u. sym (runs u) i) (sym told i)) ∙ not_false (list_any (runs_in (view_of f h) r) (wait_in (view_of f h) r t)) parts.0 in
+      (λ i. list_any (λ u. sym (runs u) i) (sym told i)) ∙ not-true (list_any (runs_in (view_of f h) r) (wait_in (view_of f h) r t)) parts.0 in
       (wait_by fresh none, sym standing_seen ∙ is_none_of (standing_in (view_of f h) r t) parts.1)
 
 pub waits_kept : (f r t i : ℕ) (h : History) → r < 2 * f + 1 → job_in (view_of f h) r ≡ Some (job.Run t i) → (wait t (journal_of r h) ≡ []) × (standing t (journal_of r h) ≡ None)

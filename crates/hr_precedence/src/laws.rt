@@ -10,9 +10,9 @@ ghost use Rattle.hr_history.specs.declared.job.Job.TheVariants.{Rollback, Run};
 ghost use Rattle.hr_history.specs.declared.phase.Phase.TheVariants.{Asked};
 ghost use Rattle.hr_history.specs.History.{History};
 ghost use Rattle.hr_history.specs.SameAnswers.{same_answers};
-ghost use Rattle.hr_history.specs.Transactions.{begun, phase_of};
+ghost use Rattle.hr_history.specs.Transactions.{begun, phase_of, is_asked};
 ghost use Rattle.hr_history.specs.Replicas.{journal_of};
-ghost use Rattle.hr_history.specs.Primary.{primary_of, search_after};
+ghost use Rattle.hr_history.specs.Primary.{primary_of, search_after, is_live};
 ghost use Rattle.hr_history.specs.Attempts.{is_touched};
 ghost use Rattle.hr_history.specs.Turn.{went};
 ghost use Rattle.hr_history.specs.View.{view_of};
@@ -21,6 +21,7 @@ ghost use Rattle.hr_history.specs.Jobs.{next_in_log};
 ghost use Rattle.hr_history.specs.Words.{IsDecidable, IsContradicted, job};
 ghost use Rattle.hr_history.specs.Faithful.{Begun, Faithful};
 ghost use Rattle.hr_records.specs.Numbers.{IsBorn};
+ghost use Rattle.hr_decisions.specs.Groups.{IsGroup};
 ghost use Rattle.hr_precedence.specs.Ends.{IsFree, HasToEnd};
 ghost use Rattle.hr_precedence.specs.GivesWay.{IsInTheWay, IsLastOfCycle};
 
@@ -58,6 +59,14 @@ pub fn kinds_in_order()
     ensures decisions { (f sessions caller t index by at u : ℕ) (before : History) → Begun f sessions (record { caller = caller; event = Refuse t (Differ index by at) } ∷ before) → IsDecidable f before u → ⊥ }
     ensures primaries { (f sessions caller r t q : ℕ) (before : History) → Begun f sessions (record { caller = caller; event = Preempt r t } ∷ before) → primary_of before ≡ None → candidate_in (view_of f before) ≡ Some q
         → is_caught_up (view_of f before) q ≡ true → ⊥ }
+{}
+
+/// Whose votes count: where a transaction is decided, or refused for the votes, f + 1 replicas are live; and what is refused for
+/// the votes was asked to be committed.
+pub fn votes_of_live_replicas()
+    ensures decided { (f sessions caller t : ℕ) (before : History) → Begun f sessions (record { caller = caller; event = Decide t } ∷ before) → IsGroup f (λ r. is_live r before) }
+    ensures refused { (f sessions caller t index by at : ℕ) (before : History) → Begun f sessions (record { caller = caller; event = Refuse t (Differ index by at) } ∷ before) → IsGroup f (λ r. is_live r before) }
+    ensures asked { (f sessions caller t index by at : ℕ) (before : History) → Begun f sessions (record { caller = caller; event = Refuse t (Differ index by at) } ∷ before) → is_asked (phase_of t before) ≡ true }
 {}
 
 /// Who is preempted at a replica runs there and doesn't have to end anyway, and the replica isn't the primary. It is in the way of

@@ -73,6 +73,10 @@ few_in_range [] a n = omega (arith, count_none (range_with_len a n))
 few_in_range (b ∷ bad) a n =
     omega (arith, at_most_both (has (b ∷ bad)) (λ x. b == x) (has bad) (range_with_len a n) (λ x there e. or_cases (b == x) (has bad x) e), once_in_range b a n, few_in_range bad a n)
 
+-- a test that passes wherever another does passes as often, or more
+pub more_pass : (p q : ℕ → Bool) (xs : List ℕ) → ((x : ℕ) → has xs x ≡ true → p x ≡ true → q x ≡ true) → count_by p xs ≤ count_by q xs
+more_pass p q xs all = omega (arith, at_most_both p q (λ x. false) xs (λ x there e. inl (all x there e)), count_none xs)
+
 length_range : (a n : ℕ) → length (range_with_len a n) ≡ n
 length_range a zero = refl
 length_range a (suc n) = ap suc (length_range (a + 1) n)

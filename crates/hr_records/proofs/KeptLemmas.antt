@@ -1,5 +1,5 @@
 -- What every history keeps that has begun rightly: in one induction, entry by entry.
-use Rattle.std.proofs.Common.{◌≡◌, inl, ℕ, zero, suc, ◌+◌, true, nat_le, Some, [], ◌∷◌, length, count_by, refl, ap, sym, ◌∙◌, subst, arith, IsTrue}
+use Rattle.std.proofs.Common.{◌≡◌, inl, inr, ℕ, zero, suc, ◌+◌, true, nat_le, Some, [], ◌∷◌, length, count_by, refl, ap, sym, ◌∙◌, subst, arith, IsTrue}
 use Rattle.std.proofs.lemmas.Bool.{and_parts}
 use Rattle.hr_base.specs.Lists.{numbered}
 use Rattle.hr_history.specs.declared.entry.Entry.{Entry}
@@ -19,6 +19,8 @@ use Rattle.hr_records.specs.ByRule.{IsJobOf}
 use Rattle.hr_records.specs.Numbers.{IsBorn}
 use Rattle.hr_records.specs.Kept.{Kept}
 use Rattle.hr_records.proofs.Options.{some_none}
+use Rattle.hr_records.proofs.Born.{born_or_not}
+use Rattle.hr_records.proofs.NumberSteps.{not_both}
 use Rattle.hr_records.proofs.RuleLemmas.{begun_before, by_rule, nothing_due}
 use Rattle.hr_records.proofs.ViewWords.{txn_born, phase_seen, open_seen}
 use Rattle.hr_records.proofs.Allowed.{may_go_on, none_open, begin_allowed, submit_allowed, take_allowed, give_allowed, restart_allowed}
@@ -143,3 +145,7 @@ module _ (f s c : ℕ) (h : History) (k : Kept h) where
 pub kept : (f s : ℕ) (h : History) → Begun f s h → Kept h
 kept f s [] begun = at_start
 kept f s (e ∷ h) begun = next f s e.caller h (kept f s h (begun_before f s e h begun)) e.event begun
+
+-- one whose commit was asked for has begun
+pub asked_born : (t : ℕ) (h : History) → Kept h → is_asked (phase_of t h) ≡ true → IsBorn (length (begun h)) t
+asked_born t h k asked = elim (born_or_not (length (begun h)) t) [ inl born ↦ born | inr unborn ↦ absurd (not_both (is_asked (phase_of t h)) asked (ap is_asked (k.numbers.unborn t unborn).0)) ]

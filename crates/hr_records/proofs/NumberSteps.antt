@@ -5,7 +5,7 @@ use Rattle.hr_history.specs.declared.job.Job.{Job}
 use Rattle.hr_history.specs.declared.job.Job.TheVariants as job
 use Rattle.hr_history.specs.declared.phase.Phase.{Phase}
 use Rattle.hr_history.specs.declared.phase.Phase.TheVariants as phase
-use Rattle.hr_history.specs.Transactions.{is_open}
+use Rattle.hr_history.specs.Transactions.{is_open, is_asked}
 use Rattle.hr_records.specs.Numbers.{IsBorn, IsBalanced, Numbers}
 use Rattle.hr_records.proofs.Options.{same_some}
 use Rattle.hr_records.proofs.Places.{same_or_not, numbered_born, numbered_front, numbered_more, numbered_end}
@@ -54,6 +54,14 @@ active_balance (phase.Asked n) s g h b = absurd (not_both false b.1 refl)
 active_balance (phase.Logged place) s g h b = cc
 active_balance phase.RolledBack s g h b = cc
 active_balance phase.Refused s g h b = cc
+
+-- one whose commit was asked for has an answer to each statement
+pub asked_balance : (p : Phase) (s g : ℕ) (w : Bool) → is_asked p ≡ true → IsBalanced p s g w → s ≡ g
+asked_balance phase.Active s g w e b = cc e
+asked_balance (phase.Asked n) s g w e b = b.0
+asked_balance (phase.Logged n) s g w e b = cc e
+asked_balance phase.RolledBack s g w e b = cc e
+asked_balance phase.Refused s g w e b = cc e
 
 pub given_le : (p : Phase) (s g : ℕ) (w : Bool) → IsBalanced p s g w → g ≤ s
 given_le phase.Active s g w b = b.0

@@ -1,17 +1,16 @@
 -- Where the whole log is processed at a replica, each of it is committed there or whole.
 use Rattle.std.proofs.Common.{◌≡◌, inl, inr, ℕ, zero, suc, ◌+◌, ◌*◌, ◌<◌, ◌≤◌, Bool, true, false, cond, Some, take, slice_get, List, [], ◌∷◌, length, refl, ap, sym, ◌∙◌, arith}
 use Rattle.std.specs.List.{prefix_len}
-use Rattle.std.proofs.lemmas.Bool.{or_cases, eqb-true, leb-true}
+use Rattle.std.proofs.lemmas.Bool.{or_cases, eqb-true}
 use Rattle.hr_rel.specs.declared.answer.Answer.{Answer}
 use Rattle.hr_engine.specs.Attempts.{attempt, statements}
 use Rattle.hr_engine.specs.Base.{count}
-use Rattle.hr_history.specs.declared.phase.Phase.{Phase}
 use Rattle.hr_history.specs.declared.phase.Phase.TheVariants as phase
 use Rattle.hr_history.specs.History.{History}
 use Rattle.hr_history.specs.Transactions.{begun, log, submits, phase_of}
 use Rattle.hr_history.specs.Replicas.{journal_of}
 use Rattle.hr_history.specs.View.{view_of}
-use Rattle.hr_history.specs.Processed.{phase_in, replica_in, answers_in, is_logged_by, is_committed, is_whole, is_processed, processed_in}
+use Rattle.hr_history.specs.Processed.{phase_in, replica_in, answers_in, is_committed, is_whole, is_processed, processed_in}
 use Rattle.hr_records.specs.Numbers.{IsBorn}
 use Rattle.hr_records.specs.Kept.{Kept}
 use Rattle.hr_records.proofs.Options.{some_none, same_some}
