@@ -1,6 +1,6 @@
 -- Ascending lists with one more, and who is in the way of a request.
-use Rattle.std.proofs.Common.{◌≡◌, ◌≢◌, ℕ, zero, suc, Bool, true, false, not, ◌&&◌, ◌||◌, ◌==◌, ◌<◌, ◌≤◌, ◌+◌, inl, inr, List, [], ◌∷◌, ◌++◌, length, get_or, take, drop, refl, ap, sym, subst, ◌∙◌, arith}
-use Rattle.std.proofs.lemmas.Bool.{and_from, or_cases, eqb-true, lt-ltb}
+use Rattle.std.proofs.Common.{◌≡◌, ◌≢◌, ℕ, zero, suc, Bool, true, false, not, ◌&&◌, ◌||◌, ◌==◌, nat_lt, ◌<◌, ◌≤◌, ◌+◌, inl, inr, List, [], ◌∷◌, ◌++◌, length, get_or, take, drop, refl, ap, sym, subst, ◌∙◌, arith}
+use Rattle.std.proofs.lemmas.Bool.{and_from, or_cases, eqb-true, lt-ltb, ltb-true, ltb-false}
 use Rattle.hr_base.specs.Lists.{has, is_ascending}
 use Rattle.hr_base.proofs.ListLaws.{has_head, has_tail}
 use Rattle.std.specs.List.{list_any}
@@ -104,12 +104,76 @@ module _ (txn t asker : ℕ) (w a : Bool) where
   pub same_in_way : (o : Bool) → o ≡ (not (t == asker) && w) → (not (txn == asker) && a) ≡ false → o ≡ (not (t == asker) && (w || ((txn == t) && a)))
   same_in_way o f h = f ∙ out_of_way_table w a (txn == t) (t == asker) (txn == asker) h of_asker
 
+neither : (a b : Bool) → a ≡ false → b ≡ false → (a || b) ≡ false
+neither true b e f = e
+neither false b e f = f
+
+differs : (a b : ℕ) → (a ≡ b → ⊥) → (a == b) ≡ false
+differs a b d = by (a == b) refl
+  where
+    by : (c : Bool) → (a == b) ≡ c → c ≡ false
+    by true e = absurd (d (eqb-true a b e))
+    by false e = refl
+
+-- in an ascending list each is less than all that stand behind it
+pub less_behind : (xs : List ℕ) → is_ascending xs ≡ true → (i j : ℕ) → i < j → j < length xs → get_or xs i 0 < get_or xs j 0
+less_behind [] a i j l within = absurd (omega arith)
+less_behind (x ∷ xs) a i zero l within = absurd (omega arith)
+less_behind (x ∷ xs) a zero (suc j) l within = above_first x xs a (get_or xs j 0) (has_at xs j (get_or xs j 0) (omega arith) refl)
+less_behind (x ∷ xs) a (suc i) (suc j) l within = less_behind xs (ascending_rest x xs a) i j (omega arith) (omega arith)
+
+-- where the one in the middle is less than t, those before it are
+pub lower_half : (xs : List ℕ) (at t : ℕ) → is_ascending xs ≡ true → at < length xs → get_or xs at 0 < t → (k : ℕ) → k < at + 1 → get_or xs k 0 < t
+lower_half xs at t a within less k l = by (nat_lt k at) refl
+  where
+    by : (b : Bool) → nat_lt k at ≡ b → get_or xs k 0 < t
+    by true before =
+        let h : k < at = ltb-true k at before in
+        let two = less_behind xs a k at h within in
+        omega (arith, two)
+    by false other =
+        let same : k ≡ at = (let not_less : at ≤ k = ltb-false k at other in omega arith) in
+        subst (λ n. get_or xs n 0 < t) (sym same) less
+
+-- and where it isn't, those behind it aren't
+pub upper_half : (xs : List ℕ) (at t : ℕ) → is_ascending xs ≡ true → t ≤ get_or xs at 0 → (k : ℕ) → at ≤ k → k < length xs → t ≤ get_or xs k 0
+upper_half xs at t a more k l within = by (nat_lt at k) refl
+  where
+    by : (b : Bool) → nat_lt at k ≡ b → t ≤ get_or xs k 0
+    by true behind =
+        let h : at < k = ltb-true at k behind in
+        let two = less_behind xs a at k h within in
+        omega (arith, two)
+    by false other =
+        let same : at ≡ k = (let not_less : k ≤ at = ltb-false at k other in omega arith) in
+        subst (λ n. t ≤ get_or xs n 0) same more
+
+-- a number that isn't at its place in an ascending list isn't in it
+pub not_in : (xs : List ℕ) (at t : ℕ) → ((k : ℕ) → k < at → get_or xs k 0 < t) → ((k : ℕ) → at ≤ k → k < length xs → t < get_or xs k 0) → has xs t ≡ false
+not_in [] at t before after = refl
+not_in (x ∷ xs) zero t before after = neither (x == t) (has xs t) (differs x t (λ e. (let l : t < x = after zero (omega arith) (omega arith) in omega arith))) (not_in xs zero t (λ k l. absurd (omega arith)) (λ k l within. after (suc k) (omega arith) (omega arith)))
+not_in (x ∷ xs) (suc at) t before after = neither (x == t) (has xs t) (differs x t (λ e. (let l : x < t = before zero (omega arith) in omega arith))) (not_in xs at t (λ k l. before (suc k) (omega arith)) (λ k l within. after (suc k) (omega arith) (omega arith)))
+
 strictly : (t g : ℕ) → t ≤ g → (g ≡ t → ⊥) → t < g
 strictly t g l differ = omega arith
 
--- what is not less at a place, and doesn't stand there, is greater
-pub greater_at : (xs : List ℕ) (at t : ℕ) → (at < length xs → t ≤ get_or xs at 0) → (at < length xs → get_or xs at 0 ≢ t) → at < length xs → t < get_or xs at 0
-greater_at xs at t not_less other l = strictly t (get_or xs at 0) (not_less l) (other l)
+-- what is not less from a place on, and doesn't stand there, is greater from there on
+pub greater_from : (xs : List ℕ) (at t : ℕ) → is_ascending xs ≡ true → ((k : ℕ) → at ≤ k → k < length xs → t ≤ get_or xs k 0) → (at < length xs → get_or xs at 0 ≢ t)
+    → (k : ℕ) → at ≤ k → k < length xs → t < get_or xs k 0
+greater_from xs at t a not_less other k l within = by (nat_lt at k) refl
+  where
+    here : at < length xs → t < get_or xs at 0
+    here w = strictly t (get_or xs at 0) (not_less at (omega arith) w) (other w)
+
+    by : (b : Bool) → nat_lt at k ≡ b → t < get_or xs k 0
+    by true behind =
+        let h : at < k = ltb-true at k behind in
+        let first : t < get_or xs at 0 = here (omega arith) in
+        let two = less_behind xs a at k h within in
+        omega (arith, two)
+    by false now =
+        let same : at ≡ k = (let not_more : k ≤ at = ltb-false at k now in omega arith) in
+        subst (λ n. t < get_or xs n 0) same (here (omega arith))
 
 -- who is in the way, with one more lock
 pub one_lock : {N : Type 0} (meets : N → N → Bool) (locks : List (Lock N)) (needs : List (Need N)) (at t asker : ℕ) (lock : Lock N) → at < length locks → lock ≡ get_or locks at lock

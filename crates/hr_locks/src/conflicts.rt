@@ -32,17 +32,19 @@ fn is_in_the_way<N: LockName>(lock: &Lock<N>, asker: TxnId, needs: &[Need<N>]) -
     lock.txn != asker && lock.is_against(needs)
 }
 
-// Puts a transaction where it belongs in an ascending list, unless it is there.
-fn add(them: &mut Vec<TxnId>, txn: TxnId) -> Result<(), AllocError>
+/// Puts a number where it belongs in an ascending list, unless it is there. Gives whether it is new.
+pub fn add(them: &mut Vec<TxnId>, txn: TxnId) -> Result<bool, AllocError>
     requires { IsTrue (is_ascending them.old.items) }
     ensures ascending { IsTrue (is_ascending them.new.items) }
     ensures added { OnOk result ((t : ℕ) → has them.new.items t ≡ (has them.old.items t || (txn == t))) }
+    ensures is_new { IfOk result (λ is_new. is_new ≡ not (has them.old.items txn)) }
 {
     let at = place_of(them, txn);
-    if !stands_at(them, at, txn) {
-        them.insert(at, txn)?;
+    if stands_at(them, at, txn) {
+        return Ok(false);
     }
-    Ok(())
+    them.insert(at, txn)?;
+    Ok(true)
 }
 
 // Whether a number stands at a place.
@@ -58,12 +60,17 @@ fn place_of(them: &[TxnId], txn: TxnId) -> usize
     requires { IsTrue (is_ascending them.now) }
     ensures within { result ≤ length them.now }
     ensures before { (k : ℕ) → k < result → slice_index them.now k < txn }
-    ensures after { result < length them.now → txn ≤ slice_index them.now result }
+    ensures after { (k : ℕ) → result ≤ k → k < length them.now → txn ≤ slice_index them.now k }
 {
-    'them: for (at, other) in them.iter().enumerate() {
-        if *other >= txn {
-            return at;
+    let mut low = 0;
+    let mut high = them.len();
+    'halves: while low < high {
+        let middle = low + (high - low) / 2;
+        if them[middle] < txn {
+            low = middle + 1;
+        } else {
+            high = middle;
         }
     }
-    them.len()
+    low
 }
