@@ -25,11 +25,11 @@ pub fn holders<N: LockName>(
     Ok(them)
 }
 
-// Whether a lock of another conflicts with one of the needs.
+// Whether a lock of another conflicts with one of the needs. Most names don't meet, so that is asked first.
 fn is_in_the_way<N: LockName>(lock: &Lock<N>, asker: TxnId, needs: &[Need<N>]) -> bool
     ensures { result ≡ (not (lock.now.txn == asker) && list_any (λ need. is_conflict N.meets lock.now.need need) needs.now) }
 {
-    lock.txn != asker && lock.is_against(needs)
+    lock.is_against(needs) && lock.txn != asker
 }
 
 /// Puts a number where it belongs in an ascending list, unless it is there. Gives whether it is new.

@@ -56,7 +56,7 @@ impl<N: LockName> Need<N> {
     pub fn conflicts(&self, other: &Need<N>) -> bool
         ensures { result ≡ is_conflict N.meets self.now other.now }
     {
-        (self.mode.is_exclusive() || other.mode.is_exclusive()) && self.name.meets(&other.name)
+        self.name.meets(&other.name) && (self.mode.is_exclusive() || other.mode.is_exclusive())
     }
 }
 
