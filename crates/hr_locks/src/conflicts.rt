@@ -64,16 +64,16 @@ pub fn add(them: &mut Vec<TxnId>, txn: TxnId) -> Result<bool, AllocError>
     Ok(true)
 }
 
-// Whether a number stands at a place.
-fn stands_at(them: &[TxnId], at: usize, txn: TxnId) -> bool
+/// Whether a number stands at a place.
+pub fn stands_at(them: &[TxnId], at: usize, txn: TxnId) -> bool
     ensures there { IsTrue result → (at < length them.now) × (slice_index them.now at ≡ txn) }
     ensures elsewhere { result ≡ false → at < length them.now → slice_index them.now at ≢ txn }
 {
     at < them.len() && them[at] == txn
 }
 
-// How many of an ascending list are less than a number.
-fn place_of(them: &[TxnId], txn: TxnId) -> usize
+/// How many of an ascending list are less than a number.
+pub fn place_of(them: &[TxnId], txn: TxnId) -> usize
     requires { IsTrue (is_ascending them.now) }
     ensures within { result ≤ length them.now }
     ensures before { (k : ℕ) → k < result → slice_index them.now k < txn }

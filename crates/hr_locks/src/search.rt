@@ -11,7 +11,7 @@ ghost use Rattle.hr_locks.specs.Waits.{wait_in, wait_seen, next_in};
 ghost use Rattle.hr_locks.specs.Searches.{with_link, led_on, routes, IsLinked, AreFound};
 
 use crate::TxnId;
-use crate::conflicts::add;
+use crate::conflicts::{add, place_of, stands_at};
 use crate::wait::Wait;
 use std::alloc::{AllocError, Global};
 
@@ -115,10 +115,31 @@ fn lead_on(
     ensures queue { OnOk result (queue.new.items ≡ led_on at names.now queue.old.items) }
     ensures found { OnOk result (AreFound found.new.items queue.new.items) }
 {
+    let mut next = 0;
     'names: for name in names {
-        find_once(queue, found, *name, at)?;
+        next = find(queue, found, *name, at, next)?;
     }
     Ok(())
+}
+
+// Finds a transaction, which may stand at a place among those that were found; gives the place behind it. Names come in
+// ascending order, so the place behind one is often that of the next.
+fn find(
+    queue: &mut Vec<Link>,
+    found: &mut Vec<TxnId>,
+    txn: TxnId,
+    at: usize,
+    next: usize,
+) -> Result<usize, AllocError>
+    requires { AreFound found.old.items queue.old.items }
+    ensures queue { OnOk result (queue.new.items ≡ with_link at txn queue.old.items) }
+    ensures found { OnOk result (AreFound found.new.items queue.new.items) }
+{
+    if stands_at(found, next, txn) {
+        return Ok(next + 1);
+    }
+    find_once(queue, found, txn, at)?;
+    Ok(place_of(found, txn) + 1)
 }
 
 fn find_once(
