@@ -11,7 +11,7 @@ use Rattle.hr_locks.specs.declared.grant.Grant.TheVariants as grant
 use Rattle.hr_locks.specs.declared.grant.LastGrant.{LastGrant}
 use Rattle.hr_locks.specs.Grants.{IsDue, locks_given}
 use Rattle.hr_locks.specs.Seen.{locks_before}
-use Rattle.hr_locks.specs.Locks.{is_conflict, is_against, is_in_the_way, locks_on, is_apart_from, is_apart, AreHolders}
+use Rattle.hr_locks.specs.Locks.{is_conflict, is_against, is_in_the_way, locks_on, is_apart_from, is_apart}
 
 module _ {X : Type 0} (p : X → Bool) where
   all_part_step : (q : X → Bool) (x : X) (xs : List X) (b : Bool) → list_all p (x ∷ xs) ≡ true → list_all p (filter q xs) ≡ true → list_all p (cond b (x ∷ filter q xs) (filter q xs)) ≡ true

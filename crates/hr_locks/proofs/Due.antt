@@ -1,5 +1,5 @@
 -- The answer that is due, from the holders and what a search tells; and what an undo gives back.
-use Rattle.std.proofs.Common.{◌≡◌, ◌≢◌, ℕ, Bool, true, false, not, ◌&&◌, ◌==◌, IfSome, Option, Some, None, List, [], ◌∷◌, ◌++◌, length, refl, ap, sym, subst, ◌∙◌, arith}
+use Rattle.std.proofs.Common.{◌≡◌, ◌≢◌, ℕ, Bool, true, false, not, ◌&&◌, ◌==◌, IfSome, Option, Some, None, List, [], ◌∷◌, ◌++◌, length, refl, ap, sym, ◌∙◌, arith}
 use Rattle.std.proofs.lemmas.Bool.{eq-eqb, true≢false}
 use Rattle.hr_base.specs.Lists.{has}
 use Rattle.hr_locks.specs.declared.need.Lock.{Lock}
@@ -9,7 +9,6 @@ use Rattle.hr_locks.specs.Locks.{AreHolders}
 use Rattle.hr_locks.specs.Waits.{seen_waits, pairs}
 use Rattle.hr_locks.specs.Cycles.{is_chain, closes, IsToldCycle}
 use Rattle.hr_locks.specs.Grants.{IsBlocked, IsDeadlock}
-use Rattle.hr_locks.specs.Table.{Held, Table}
 use Rattle.hr_locks.specs.Seen.{locks_before, undo_of, seen_table}
 
 pub same_waits : (f g : ℕ → List ℕ) → ((t : ℕ) → f t ≡ g t) → f ≡ g

@@ -1,6 +1,6 @@
-use Rattle.std.proofs.Common.{◌<◌, ◌≤◌, ◌≢◌, ◌≡◌, ℕ, true, false, not, length, get_or, refl, sym, ◌∙◌, ap, subst, arith}
+use Rattle.std.proofs.Common.{◌<◌, ◌≤◌, ◌≢◌, ◌≡◌, ℕ, true, not, length, get_or, refl, sym, ◌∙◌, ap, subst, arith}
 use Rattle.hr_base.specs.Lists.{has, is_ascending}
-use Rattle.hr_locks.proofs.HolderLemmas.{ascending_put, greater_from, has_put, has_already, has_at, not_in}
+use Rattle.hr_locks.proofs.HolderLemmas.{ascending_put, greater_from, has_put, not_in}
 use Rattle.hr_locks.proofs.conflicts.add.Goals as goal
 
 pub returns-clause-ascending : goal.returns-clause-ascending

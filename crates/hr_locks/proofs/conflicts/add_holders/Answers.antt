@@ -1,5 +1,4 @@
-use Rattle.std.proofs.Common.{◌≡◌, ◌<◌, ◌≤◌, ◌||◌, ◌&&◌, ◌==◌, ◌∙◌, true, not, [], ◌∷◌, length, get_or, take, ap, sym, subst, arith}
-use Rattle.std.proofs.lemmas.List.{take_all}
+use Rattle.std.proofs.Common.{◌≡◌, ◌<◌, ◌||◌, ◌&&◌, ◌==◌, ◌∙◌, true, not, [], ◌∷◌, length, get_or, take, ap, sym, subst, arith}
 use Rattle.hr_base.specs.Lists.{has, is_ascending}
 use Rattle.hr_locks.specs.Locks.{is_conflict, is_in_the_way}
 use Rattle.hr_locks.proofs.HolderLemmas.{more_in_way, same_in_way, one_lock}

@@ -1,4 +1,4 @@
-use Rattle.std.proofs.Common.{◌<◌, ◌≤◌, ◌+◌, ◌-◌, ◌/◌, length, arith}
+use Rattle.std.proofs.Common.{◌<◌, ◌+◌, ◌-◌, ◌/◌, length, arith}
 use Rattle.hr_locks.proofs.HolderLemmas.{lower_half, upper_half}
 use Rattle.hr_locks.proofs.conflicts.place_of.Goals as goal
 
