@@ -1,5 +1,5 @@
 -- The answer that is due, from the holders and what a search tells; and what an undo gives back.
-use Rattle.std.proofs.Common.{◌≡◌, ◌≢◌, ℕ, Bool, true, false, not, ◌&&◌, ◌==◌, IfSome, Option, Some, None, List, [], ◌∷◌, ◌++◌, length, take, filter, refl, ap, sym, subst, ◌∙◌, arith}
+use Rattle.std.proofs.Common.{◌≡◌, ◌≢◌, ℕ, Bool, true, false, not, ◌&&◌, ◌==◌, IfSome, Option, Some, None, List, [], ◌∷◌, ◌++◌, length, refl, ap, sym, ◌∙◌, arith}
 use Rattle.std.proofs.lemmas.Bool.{eq-eqb, true≢false}
 use Rattle.hr_base.specs.Lists.{has}
 use Rattle.hr_locks.specs.declared.need.Lock.{Lock}
@@ -9,8 +9,7 @@ use Rattle.hr_locks.specs.Locks.{AreHolders}
 use Rattle.hr_locks.specs.Waits.{seen_waits, pairs}
 use Rattle.hr_locks.specs.Cycles.{is_chain, closes, IsToldCycle}
 use Rattle.hr_locks.specs.Grants.{IsBlocked, IsDeadlock}
-use Rattle.hr_locks.specs.Table.{Held, Table}
-use Rattle.hr_locks.specs.Seen.{undo_of, seen_table}
+use Rattle.hr_locks.specs.Seen.{locks_before, undo_of, seen_table}
 
 pub same_waits : (f g : ℕ → List ℕ) → ((t : ℕ) → f t ≡ g t) → f ≡ g
 same_waits f g e = λ i t. e t i
@@ -56,7 +55,7 @@ pub seen_all : (ws : List Wait) → seen_waits None ws ≡ ws
 seen_all [] = refl
 seen_all (w ∷ ws) = ap (λ v. w ∷ v) (seen_all ws)
 
-pub undo_gives : {N : Type 0} (locks new : List (Lock N)) (ws : List Wait) (last : Option LastGrant) → IfSome last (λ (grant : LastGrant). new ≡ take grant.locks locks)
+pub undo_gives : {N : Type 0} (locks new : List (Lock N)) (ws : List Wait) (last : Option LastGrant) → new ≡ locks_before last locks
     → IfSome (undo_of locks ws last) (λ before. seen_table new ws None ≡ record { held = before.1; undo = None })
-undo_gives locks new ws None e = e
+undo_gives locks new ws None e = tt
 undo_gives locks new ws (Some grant) e = λ i. record { held = record { locks = e i; waits = pairs (seen_all ws i) }; undo = None }

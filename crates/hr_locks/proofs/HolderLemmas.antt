@@ -1,10 +1,11 @@
 -- Ascending lists with one more, and who is in the way of a request.
-use Rattle.std.proofs.Common.{◌≡◌, ◌≢◌, ℕ, zero, suc, Bool, true, false, not, ◌&&◌, ◌||◌, ◌==◌, ◌<◌, ◌≤◌, ◌+◌, inl, inr, List, [], ◌∷◌, ◌++◌, length, get_or, take, drop, refl, ap, sym, subst, ◌∙◌, arith}
-use Rattle.std.proofs.lemmas.Bool.{and_from, or_cases, eqb-true, lt-ltb}
+use Rattle.std.proofs.Common.{◌≡◌, ◌≢◌, ℕ, zero, suc, Bool, true, false, not, ◌&&◌, ◌||◌, ◌==◌, nat_lt, ◌<◌, ◌≤◌, ◌+◌, inl, inr, List, [], ◌∷◌, ◌++◌, length, get_or, take, drop, refl, ap, sym, subst, ◌∙◌, arith}
+use Rattle.std.proofs.lemmas.Bool.{and_from, or_cases, eqb-true, lt-ltb, ltb-true, ltb-false}
 use Rattle.hr_base.specs.Lists.{has, is_ascending}
 use Rattle.hr_base.proofs.ListLaws.{has_head, has_tail}
 use Rattle.std.specs.List.{list_any}
-use Rattle.std.proofs.lemmas.List.Folds.{list_any_more}
+use Rattle.std.proofs.lemmas.List.Folds.{list_any_more, list_any-append}
+use Rattle.std.proofs.lemmas.List.{take_more}
 use Rattle.hr_locks.specs.declared.need.Lock.{Lock}
 use Rattle.hr_locks.specs.declared.need.Need.{Need}
 use Rattle.hr_locks.specs.Locks.{is_conflict, is_against, is_in_the_way}
@@ -93,29 +94,145 @@ out_of_way_table false false true false e h s = refl
 out_of_way_table false true true false true h s = cc (s refl)
 out_of_way_table false true true false false h s = cc
 
-module _ (txn t asker : ℕ) (w a : Bool) where
+or_assoc : (a b c : Bool) → ((a || b) || c) ≡ (a || (b || c))
+or_assoc true b c = refl
+or_assoc false b c = refl
+
+or_nothing : (a : Bool) → (a || false) ≡ a
+or_nothing true = refl
+or_nothing false = refl
+
+-- `h`: whether t was a holder before
+module _ (txn t asker : ℕ) (h w a : Bool) where
   of_asker : (txn == t) ≡ true → (txn == asker) ≡ (t == asker)
   of_asker e = ap (λ v. v == asker) (eqb-true txn t e)
 
   -- the holders with those of one more lock
-  pub more_in_way : (n o : Bool) → n ≡ (o || (txn == t)) → o ≡ (not (t == asker) && w) → (not (txn == asker) && a) ≡ true → n ≡ (not (t == asker) && (w || ((txn == t) && a)))
-  more_in_way n o e f h = e ∙ ap (λ v. v || (txn == t)) f ∙ in_way_table w a (txn == t) (t == asker) (txn == asker) h of_asker
+  pub more_in_way : (n o : Bool) → n ≡ (o || (txn == t)) → o ≡ (h || (not (t == asker) && w)) → (not (txn == asker) && a) ≡ true → n ≡ (h || (not (t == asker) && (w || ((txn == t) && a))))
+  more_in_way n o e f against =
+      e ∙ ap (λ v. v || (txn == t)) f ∙ or_assoc h (not (t == asker) && w) (txn == t)
+      ∙ ap (λ v. h || v) (in_way_table w a (txn == t) (t == asker) (txn == asker) against of_asker)
 
-  pub same_in_way : (o : Bool) → o ≡ (not (t == asker) && w) → (not (txn == asker) && a) ≡ false → o ≡ (not (t == asker) && (w || ((txn == t) && a)))
-  same_in_way o f h = f ∙ out_of_way_table w a (txn == t) (t == asker) (txn == asker) h of_asker
+  pub same_in_way : (o : Bool) → o ≡ (h || (not (t == asker) && w)) → (not (txn == asker) && a) ≡ false → o ≡ (h || (not (t == asker) && (w || ((txn == t) && a))))
+  same_in_way o f against = f ∙ ap (λ v. h || v) (out_of_way_table w a (txn == t) (t == asker) (txn == asker) against of_asker)
+
+neither : (a b : Bool) → a ≡ false → b ≡ false → (a || b) ≡ false
+neither true b e f = e
+neither false b e f = f
+
+differs : (a b : ℕ) → (a ≡ b → ⊥) → (a == b) ≡ false
+differs a b d = by (a == b) refl
+  where
+    by : (c : Bool) → (a == b) ≡ c → c ≡ false
+    by true e = absurd (d (eqb-true a b e))
+    by false e = refl
+
+-- in an ascending list each is less than all that stand behind it
+pub less_behind : (xs : List ℕ) → is_ascending xs ≡ true → (i j : ℕ) → i < j → j < length xs → get_or xs i 0 < get_or xs j 0
+less_behind [] a i j l within = absurd (omega arith)
+less_behind (x ∷ xs) a i zero l within = absurd (omega arith)
+less_behind (x ∷ xs) a zero (suc j) l within = above_first x xs a (get_or xs j 0) (has_at xs j (get_or xs j 0) (omega arith) refl)
+less_behind (x ∷ xs) a (suc i) (suc j) l within = less_behind xs (ascending_rest x xs a) i j (omega arith) (omega arith)
+
+-- where the one in the middle is less than t, those before it are
+pub lower_half : (xs : List ℕ) (at t : ℕ) → is_ascending xs ≡ true → at < length xs → get_or xs at 0 < t → (k : ℕ) → k < at + 1 → get_or xs k 0 < t
+lower_half xs at t a within less k l = by (nat_lt k at) refl
+  where
+    by : (b : Bool) → nat_lt k at ≡ b → get_or xs k 0 < t
+    by true before =
+        let h : k < at = ltb-true k at before in
+        let two = less_behind xs a k at h within in
+        omega (arith, two)
+    by false other =
+        let same : k ≡ at = (let not_less : at ≤ k = ltb-false k at other in omega arith) in
+        subst (λ n. get_or xs n 0 < t) (sym same) less
+
+-- and where it isn't, those behind it aren't
+pub upper_half : (xs : List ℕ) (at t : ℕ) → is_ascending xs ≡ true → t ≤ get_or xs at 0 → (k : ℕ) → at ≤ k → k < length xs → t ≤ get_or xs k 0
+upper_half xs at t a more k l within = by (nat_lt at k) refl
+  where
+    by : (b : Bool) → nat_lt at k ≡ b → t ≤ get_or xs k 0
+    by true behind =
+        let h : at < k = ltb-true at k behind in
+        let two = less_behind xs a at k h within in
+        omega (arith, two)
+    by false other =
+        let same : at ≡ k = (let not_less : k ≤ at = ltb-false at k other in omega arith) in
+        subst (λ n. t ≤ get_or xs n 0) same more
+
+-- a number that isn't at its place in an ascending list isn't in it
+pub not_in : (xs : List ℕ) (at t : ℕ) → ((k : ℕ) → k < at → get_or xs k 0 < t) → ((k : ℕ) → at ≤ k → k < length xs → t < get_or xs k 0) → has xs t ≡ false
+not_in [] at t before after = refl
+not_in (x ∷ xs) zero t before after = neither (x == t) (has xs t) (differs x t (λ e. (let l : t < x = after zero (omega arith) (omega arith) in omega arith))) (not_in xs zero t (λ k l. absurd (omega arith)) (λ k l within. after (suc k) (omega arith) (omega arith)))
+not_in (x ∷ xs) (suc at) t before after = neither (x == t) (has xs t) (differs x t (λ e. (let l : x < t = before zero (omega arith) in omega arith))) (not_in xs at t (λ k l. before (suc k) (omega arith)) (λ k l within. after (suc k) (omega arith) (omega arith)))
 
 strictly : (t g : ℕ) → t ≤ g → (g ≡ t → ⊥) → t < g
 strictly t g l differ = omega arith
 
--- what is not less at a place, and doesn't stand there, is greater
-pub greater_at : (xs : List ℕ) (at t : ℕ) → (at < length xs → t ≤ get_or xs at 0) → (at < length xs → get_or xs at 0 ≢ t) → at < length xs → t < get_or xs at 0
-greater_at xs at t not_less other l = strictly t (get_or xs at 0) (not_less l) (other l)
+-- what is not less from a place on, and doesn't stand there, is greater from there on
+pub greater_from : (xs : List ℕ) (at t : ℕ) → is_ascending xs ≡ true → ((k : ℕ) → at ≤ k → k < length xs → t ≤ get_or xs k 0) → (at < length xs → get_or xs at 0 ≢ t)
+    → (k : ℕ) → at ≤ k → k < length xs → t < get_or xs k 0
+greater_from xs at t a not_less other k l within = by (nat_lt at k) refl
+  where
+    here : at < length xs → t < get_or xs at 0
+    here w = strictly t (get_or xs at 0) (not_less at (omega arith) w) (other w)
 
--- who is in the way, with one more lock
-pub one_lock : {N : Type 0} (meets : N → N → Bool) (locks : List (Lock N)) (needs : List (Need N)) (at t asker : ℕ) (lock : Lock N) → at < length locks → lock ≡ get_or locks at lock
-    → (not (t == asker) && (is_in_the_way meets (take at locks) needs t || ((lock.txn == t) && list_any (λ need. is_conflict meets lock.need need) needs)))
-    ≡ (not (t == asker) && is_in_the_way meets (take (at + 1) locks) needs t)
-one_lock meets locks needs at t asker lock l is =
-    ap (λ b. not (t == asker) && b)
-    (ap (λ b. is_in_the_way meets (take at locks) needs t || b) (ap (is_against meets needs t) is)
-    ∙ sym (list_any_more (is_against meets needs t) locks at lock l))
+    by : (b : Bool) → nat_lt at k ≡ b → t < get_or xs k 0
+    by true behind =
+        let h : at < k = ltb-true at k behind in
+        let first : t < get_or xs at 0 = here (omega arith) in
+        let two = less_behind xs a at k h within in
+        omega (arith, two)
+    by false now =
+        let same : at ≡ k = (let not_more : k ≤ at = ltb-false at k now in omega arith) in
+        subst (λ n. t < get_or xs n 0) same (here (omega arith))
+
+-- who is in the way of one need, with one more lock
+pub one_lock : {N : Type 0} (meets : N → N → Bool) (locks : List (Lock N)) (need : Need N) (at t : ℕ) (lock : Lock N) → at < length locks → lock ≡ get_or locks at lock
+    → (is_in_the_way meets (take at locks) (need ∷ []) t || ((lock.txn == t) && is_conflict meets lock.need need)) ≡ is_in_the_way meets (take (at + 1) locks) (need ∷ []) t
+one_lock meets locks need at t lock l is =
+    ap (λ b. is_in_the_way meets (take at locks) (need ∷ []) t || ((lock.txn == t) && b)) (sym (or_nothing (is_conflict meets lock.need need)))
+    ∙ ap (λ b. is_in_the_way meets (take at locks) (need ∷ []) t || b) (ap (is_against meets (need ∷ []) t) is)
+    ∙ sym (list_any_more (is_against meets (need ∷ []) t) locks at lock l)
+
+-- who is in the way of more needs
+spread : (b p q r s : Bool) → ((b && (p || q)) || (r || s)) ≡ (((b && p) || r) || ((b && q) || s))
+spread true true q r s = refl
+spread true false true true s = refl
+spread true false true false s = refl
+spread true false false r s = refl
+spread false p q r s = refl
+
+needs_both : {N : Type 0} (meets : N → N → Bool) (locks : List (Lock N)) (needs others : List (Need N)) (t : ℕ)
+    → is_in_the_way meets locks (needs ++ others) t ≡ (is_in_the_way meets locks needs t || is_in_the_way meets locks others t)
+needs_both meets [] needs others t = refl
+needs_both meets (lock ∷ locks) needs others t =
+    let c : Need _ → Bool = λ need. is_conflict meets lock.need need in
+    (λ i. ((lock.txn == t) && list_any-append c needs others i) || needs_both meets locks needs others t i)
+    ∙ spread (lock.txn == t) (list_any c needs) (list_any c others) (is_in_the_way meets locks needs t) (is_in_the_way meets locks others t)
+
+shut_both : (d p q : Bool) → ((not d && p) || (not d && q)) ≡ (not d && (p || q))
+shut_both true p q = refl
+shut_both false p q = refl
+
+pub one_need : {N : Type 0} (meets : N → N → Bool) (locks : List (Lock N)) (needs : List (Need N)) (at t asker : ℕ) (need : Need N) → at < length needs → need ≡ get_or needs at need
+    → ((not (t == asker) && is_in_the_way meets locks (take at needs) t) || (not (t == asker) && is_in_the_way meets locks (need ∷ []) t))
+    ≡ (not (t == asker) && is_in_the_way meets locks (take (at + 1) needs) t)
+one_need meets locks needs at t asker need l is =
+    shut_both (t == asker) (is_in_the_way meets locks (take at needs) t) (is_in_the_way meets locks (need ∷ []) t)
+    ∙ ap (λ b. not (t == asker) && b)
+    (sym (needs_both meets locks (take at needs) (need ∷ []) t)
+    ∙ ap (λ v. is_in_the_way meets locks v t) (ap (λ v. take at needs ++ v ∷ []) is ∙ sym (take_more needs at need l)))
+
+-- with no needs nobody is in the way
+pub no_needs : {N : Type 0} (meets : N → N → Bool) (locks : List (Lock N)) (t : ℕ) → is_in_the_way meets locks [] t ≡ false
+no_needs meets [] t = refl
+no_needs meets (lock ∷ locks) t = neither ((lock.txn == t) && false) (is_in_the_way meets locks [] t) (and_none (lock.txn == t)) (no_needs meets locks t)
+  where
+    and_none : (b : Bool) → (b && false) ≡ false
+    and_none true = refl
+    and_none false = refl
+
+pub shut_none : (d b : Bool) → b ≡ false → false ≡ (not d && b)
+shut_none true b e = refl
+shut_none false b e = sym e

@@ -7,3 +7,4 @@ mod Closing
 mod Steps
 mod WaitLemmas
 mod Due
+mod Apart

@@ -1,8 +1,8 @@
 -- Whom a transaction waits for, after lists of waits were changed.
-use Rattle.std.proofs.Common.{◌≡◌, ◌≤◌, ◌<◌, ◌+◌, ℕ, zero, suc, Bool, true, false, not, cond, ◌||◌, ◌==◌, if◌then◌else◌, Option, Some, None, List, [], ◌∷◌, ◌++◌, map, filter, take, drop, length, get_or, slice_set, refl, ap, sym, subst, ◌∙◌, arith}
-use Rattle.std.proofs.lemmas.Bool.{eqb-true, eq-eqb, true≢false}
+use Rattle.std.proofs.Common.{◌≡◌, ◌≤◌, ◌<◌, ℕ, zero, suc, Bool, true, false, not, cond, ◌||◌, ◌==◌, if◌then◌else◌, Option, Some, List, [], ◌∷◌, ◌++◌, map, filter, take, drop, length, get_or, slice_set, refl, ap, sym, ◌∙◌, arith}
+use Rattle.std.proofs.lemmas.Bool.{eqb-true, true≢false}
 use Rattle.std.proofs.lemmas.List.{append-nil}
-use Rattle.hr_base.specs.Lists.{has, is_ascending}
+use Rattle.hr_base.specs.Lists.{is_ascending}
 use Rattle.hr_base.proofs.Tests.{eq_turn, in_filter}
 use Rattle.hr_locks.specs.declared.wait.Wait.{Wait}
 use Rattle.hr_locks.specs.Waits.{wait_in, wait_seen, without, is_the_one, pairs, named_in, seen_waits, waits_of_others}

@@ -1,6 +1,6 @@
 -- What is locked, and whose locks are in whose way.
-use Rattle.std.specs.Prelude.{◌≡◌, ℕ, Bool, true, false, not, ◌&&◌, ◌||◌, ◌==◌, List, map, IsTrue}
-use Rattle.std.specs.List.{list_any}
+use Rattle.std.specs.Prelude.{◌≡◌, ℕ, Bool, true, false, not, ◌&&◌, ◌||◌, ◌==◌, List, [], ◌∷◌, map, IsTrue}
+use Rattle.std.specs.List.{list_any, list_all}
 use Rattle.hr_base.specs.Lists.{has, is_ascending}
 use Rattle.hr_locks.specs.declared.need.Mode.{Mode}
 use Rattle.hr_locks.specs.declared.need.Mode.TheVariants.{Shared, Exclusive}
@@ -28,6 +28,15 @@ module _ {N : Type 0} (meets : N → N → Bool) where
   -- whether a transaction holds what conflicts with one of the needs
   abbrev pub is_in_the_way : List (Lock N) → List (Need N) → ℕ → Bool
   is_in_the_way locks needs t = list_any (is_against needs t) locks
+
+  -- whether two locks are of one transaction, or don't conflict
+  abbrev pub is_apart_from : Lock N → Lock N → Bool
+  is_apart_from lock other = (lock.txn == other.txn) || not (is_conflict lock.need other.need)
+
+  -- whether no two transactions hold what conflicts: each lock is set against all that were granted later
+  abbrev pub is_apart : List (Lock N) → Bool
+  is_apart [] = true
+  is_apart (lock ∷ locks) = list_all (is_apart_from lock) locks && is_apart locks
 
 -- the list is, in ascending order, all the others that are in the way of the asker
 pub record AreHolders (asker : ℕ) (in_way : ℕ → Bool) (holders : List ℕ) : Type 0 where

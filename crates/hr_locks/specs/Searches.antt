@@ -1,11 +1,17 @@
 -- What a search has found. Each transaction that was found stands in a queue, with the place of the one that waits for it.
-use Rattle.std.specs.Prelude.{◌<◌, ℕ, suc, Bool, List, [], ◌∷◌, ◌++◌, Option, Some, None, IfSome, get_or, if◌then◌else◌, ◌==◌}
+use Rattle.std.specs.Prelude.{◌≡◌, ◌<◌, IsTrue, ℕ, suc, Bool, List, [], ◌∷◌, ◌++◌, Option, Some, None, IfSome, get_or, if◌then◌else◌, ◌==◌}
 use Rattle.std.specs.List.{list_any}
+use Rattle.hr_base.specs.Lists.{has, is_ascending}
 use Rattle.hr_locks.specs.declared.search.Link.{Link}
 
 -- whether the queue has a transaction
 abbrev pub reaches : List Link → ℕ → Bool
 reaches links t = list_any (λ (link : Link). link.txn == t) links
+
+-- a list has those of the queue, in ascending order
+pub record AreFound (found : List ℕ) (links : List Link) : Type 0 where
+  pub ascending : IsTrue (is_ascending found)
+  pub all : (t : ℕ) → has found t ≡ reaches links t
 
 -- the queue with a transaction that one at this place waits for, unless it is there
 abbrev pub with_link : ℕ → ℕ → List Link → List Link

@@ -16,10 +16,15 @@ module _ {N : Type 0} where
   abbrev pub held_of : List (Lock N) → List Wait → Option LastGrant → Held N
   held_of locks waits last = record { locks = locks; waits = pairs (seen_waits (waiter_of last) waits) }
 
+  -- the locks before the last grant
+  abbrev pub locks_before : Option LastGrant → List (Lock N) → List (Lock N)
+  locks_before None locks = locks
+  locks_before (Some last) locks = take last.locks locks
+
   -- what stood before the last grant
   abbrev pub undo_of : List (Lock N) → List Wait → Option LastGrant → Option (ℕ × Held N)
   undo_of locks waits None = None
-  undo_of locks waits (Some last) = Some (last.txn, record { locks = take last.locks locks; waits = pairs waits })
+  undo_of locks waits (Some last) = Some (last.txn, record { locks = locks_before (Some last) locks; waits = pairs waits })
 
   abbrev pub seen_table : List (Lock N) → List Wait → Option LastGrant → Table N
   seen_table locks waits last = record { held = held_of locks waits last; undo = undo_of locks waits last }

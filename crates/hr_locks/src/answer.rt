@@ -8,8 +8,11 @@ ghost use Rattle.hr_locks.specs.Table.{Held, undo_given};
 ghost use Rattle.hr_locks.specs.Seen.{waiter_of, held_of, undo_of};
 
 use crate::changes::{drop_kept_back, drop_wait, put_locks, put_wait};
+use crate::conflicts::holders;
 use crate::grant::LastGrant;
-use crate::{Grant, Lock, LockName, Need, TxnId, Wait, holders, told_cycle};
+use crate::search::told_cycle;
+use crate::wait::Wait;
+use crate::{Grant, Lock, LockName, Need, TxnId};
 use std::alloc::{AllocError, Global};
 
 /// Whose wait is kept back for an undo.

@@ -1,13 +1,15 @@
 //! Changes of the lists that a lock table is made of. None takes memory but where its answer says so, and then nothing
 //! has changed.
-ghost use Rattle.std.specs.Prelude.{◌≡◌, ◌≤◌, ℕ, [], ◌∷◌, ◌++◌, ◌==◌, not, filter, map, take, IfSome, OnOk, OnErr, IsTrue};
+ghost use Rattle.std.specs.Prelude.{◌≡◌, ◌≤◌, ℕ, [], ◌∷◌, ◌++◌, ◌==◌, not, filter, map, OnOk, OnErr, IsTrue};
 ghost use Rattle.std.specs.Vec.{vec_len, vec_capacity};
 ghost use Rattle.hr_base.specs.Lists.{is_ascending};
 ghost use Rattle.hr_locks.specs.Locks.{locks_on};
 ghost use Rattle.hr_locks.specs.Waits.{without, is_the_one, pairs, seen_waits, waits_of_others};
+ghost use Rattle.hr_locks.specs.Seen.{locks_before};
 
 use crate::grant::LastGrant;
-use crate::{Lock, LockName, Need, TxnId, Wait};
+use crate::wait::Wait;
+use crate::{Lock, LockName, Need, TxnId};
 use std::alloc::{AllocError, Global};
 
 /// Locks what a transaction needs.
@@ -37,7 +39,7 @@ pub fn drop_locks<N: LockName>(locks: &mut Vec<Lock<N>>, txn: TxnId)
 
 /// Drops the locks of the last grant.
 pub fn take_back<N: LockName>(locks: &mut Vec<Lock<N>>, last: Option<LastGrant>)
-    ensures { IfSome last (λ grant. locks.new.items ≡ take grant.locks locks.old.items) }
+    ensures { locks.new.items ≡ locks_before last locks.old.items }
 {
     if let Some(grant) = last {
         locks.truncate(grant.locks);

@@ -1,5 +1,4 @@
 ghost use Rattle.std.specs.Prelude.{◌≡◌, Bool};
-ghost use Rattle.std.specs.List.{list_any};
 ghost use Rattle.hr_locks.specs.Locks.{is_exclusive, is_conflict};
 
 /// The number of a transaction.
@@ -56,15 +55,6 @@ impl<N: LockName> Need<N> {
     pub fn conflicts(&self, other: &Need<N>) -> bool
         ensures { result ≡ is_conflict N.meets self.now other.now }
     {
-        (self.mode.is_exclusive() || other.mode.is_exclusive()) && self.name.meets(&other.name)
-    }
-}
-
-impl<N: LockName> Lock<N> {
-    /// Whether it conflicts with one of the needs.
-    pub fn is_against(&self, needs: &[Need<N>]) -> bool
-        ensures { result ≡ list_any (λ need. is_conflict N.meets self.now.need need) needs.now }
-    {
-        needs.iter().any(|need| self.need.conflicts(need))
+        self.name.meets(&other.name) && (self.mode.is_exclusive() || other.mode.is_exclusive())
     }
 }

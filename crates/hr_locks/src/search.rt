@@ -2,14 +2,17 @@
 //!
 //! It goes by layers: from the asker to those in its way, from these to those that they wait for, and so on. Each that is
 //! found is led on once, in the order of finding, so that each wait is read once. The first that waits for the asker closes
-//! the cycle that is told: within a layer the order of finding is the dictionary order of the least routes.
+//! the cycle that is told: within a layer the order of finding is the dictionary order of the least routes. Those that were
+//! found stand in ascending order too, so that a name is looked for in the time of a logarithm.
 ghost use Rattle.std.specs.Prelude.{◌≡◌, ◌<◌, ℕ, List, [], ◌∷◌, false, length, reverse, get_or, IfOk, OnOk, MatchOption, IsTrue};
 ghost use Rattle.hr_base.specs.Lists.{has, is_ascending};
 ghost use Rattle.hr_locks.specs.Cycles.{closes, IsToldCycle};
 ghost use Rattle.hr_locks.specs.Waits.{wait_in, wait_seen, next_in};
-ghost use Rattle.hr_locks.specs.Searches.{reaches, with_link, led_on, routes, IsLinked};
+ghost use Rattle.hr_locks.specs.Searches.{with_link, led_on, routes, IsLinked, AreFound};
 
-use crate::{TxnId, Wait};
+use crate::TxnId;
+use crate::conflicts::{add, place_of, stands_at};
+use crate::wait::Wait;
 use std::alloc::{AllocError, Global};
 
 /// A transaction that was found, and the place of the one that waits for it.
@@ -37,6 +40,8 @@ pub fn told_cycle(
         txn: asker,
         by: None,
     })?;
+    let mut found = Vec::new(alloc);
+    found.push(asker)?;
     let mut at = 0;
     'queue: while at < queue.len() {
         let link = link_at(&queue, at);
@@ -44,7 +49,7 @@ pub fn told_cycle(
         if waits_for(names, asker) {
             return Ok(Some(cycle_to(alloc, &queue, at)?));
         }
-        lead_on(&mut queue, names, at)?;
+        lead_on(&mut queue, &mut found, names, at)?;
         at += 1;
     }
     Ok(None)
@@ -99,26 +104,56 @@ fn waits_for(names: &[TxnId], txn: TxnId) -> bool
     names.iter().any(|name| *name == txn)
 }
 
-fn is_found(queue: &[Link], txn: TxnId) -> bool
-    ensures { result ≡ reaches queue.now txn }
-{
-    queue.iter().any(|link| link.txn == txn)
-}
-
 // Puts those that weren't found before at the end of the queue.
-fn lead_on(queue: &mut Vec<Link>, names: &[TxnId], at: usize) -> Result<(), AllocError>
-    ensures { OnOk result (queue.new.items ≡ led_on at names.now queue.old.items) }
+fn lead_on(
+    queue: &mut Vec<Link>,
+    found: &mut Vec<TxnId>,
+    names: &[TxnId],
+    at: usize,
+) -> Result<(), AllocError>
+    requires { AreFound found.old.items queue.old.items }
+    ensures queue { OnOk result (queue.new.items ≡ led_on at names.now queue.old.items) }
+    ensures found { OnOk result (AreFound found.new.items queue.new.items) }
 {
+    let mut next = 0;
     'names: for name in names {
-        find_once(queue, *name, at)?;
+        next = find(queue, found, *name, at, next)?;
     }
     Ok(())
 }
 
-fn find_once(queue: &mut Vec<Link>, txn: TxnId, at: usize) -> Result<(), AllocError>
-    ensures { OnOk result (queue.new.items ≡ with_link at txn queue.old.items) }
+// Finds a transaction, which may stand at a place among those that were found; gives the place behind it. Names come in
+// ascending order, so the place behind one is often that of the next.
+fn find(
+    queue: &mut Vec<Link>,
+    found: &mut Vec<TxnId>,
+    txn: TxnId,
+    at: usize,
+    next: usize,
+) -> Result<usize, AllocError>
+    requires { AreFound found.old.items queue.old.items }
+    ensures queue { OnOk result (queue.new.items ≡ with_link at txn queue.old.items) }
+    ensures found { OnOk result (AreFound found.new.items queue.new.items) }
 {
-    if !is_found(queue, txn) {
+    if stands_at(found, next, txn) {
+        return Ok(next + 1);
+    }
+    find_once(queue, found, txn, at)?;
+    Ok(place_of(found, txn) + 1)
+}
+
+fn find_once(
+    queue: &mut Vec<Link>,
+    found: &mut Vec<TxnId>,
+    txn: TxnId,
+    at: usize,
+) -> Result<(), AllocError>
+    requires { AreFound found.old.items queue.old.items }
+    ensures queue { OnOk result (queue.new.items ≡ with_link at txn queue.old.items) }
+    ensures found { OnOk result (AreFound found.new.items queue.new.items) }
+{
+    let is_new = add(found, txn)?;
+    if is_new {
         queue.push(Link { txn, by: Some(at) })?;
     }
     Ok(())

@@ -2,7 +2,8 @@
 use crate::answer::{answer_due, carry_out, waiter_of};
 use crate::changes::{drop_locks, drop_wait, forget, take_back};
 use crate::grant::LastGrant;
-use crate::{Grant, Lock, LockName, Need, TxnId, Wait};
+use crate::wait::Wait;
+use crate::{Grant, Lock, LockName, Need, TxnId};
 use std::alloc::{AllocError, Global};
 use std::marker::Model;
 
@@ -24,11 +25,16 @@ impl<N: LockName> Model for LockTable<N> {
     ghost Value = { Table N };
 
     ghost view = { λ t. seen_table t.locks.items t.waits.items t.last };
+
+    ghost use Rattle.std.specs.Prelude.{IsTrue};
+    ghost use Rattle.hr_locks.specs.Locks.{is_apart};
+
+    ghost invariant = { λ t. IsTrue (is_apart N.meets t.locks.items) };
 }
 
 impl<N: LockName> LockTable<N> {
-    ghost use Rattle.std.specs.Prelude.{◌≡◌, ℕ, [], ◌++◌, ◌==◌, not, filter, if◌then◌else◌, Option, Some, None, IfSome, IsSomeAnd, IfOk, OnErr};
-    ghost use Rattle.hr_locks.specs.Locks.{is_in_the_way};
+    ghost use Rattle.std.specs.Prelude.{◌≡◌, ℕ, [], ◌++◌, ◌==◌, not, filter, if◌then◌else◌, Option, Some, None, IfSome, IsSomeAnd, IfOk, OnErr, IsTrue};
+    ghost use Rattle.hr_locks.specs.Locks.{is_in_the_way, is_apart};
     ghost use Rattle.hr_locks.specs.Waits.{without};
     ghost use Rattle.hr_locks.specs.Grants.{IsDue, locks_given, wait_given};
     ghost use Rattle.hr_locks.specs.Table.{empty, wait_of, undo_given};
@@ -42,6 +48,13 @@ impl<N: LockName> LockTable<N> {
             waits: Vec::new(alloc),
             last: None,
         }
+    }
+
+    /// At no moment do two transactions hold what conflicts.
+    pub fn is_apart(&self)
+        ensures { IsTrue (is_apart N.meets self.now.held.locks) }
+    {
+        let _locks = &self.locks;
     }
 
     /// Locks all that a transaction needs, or nothing. In either case whom it waited for before is forgotten; where it is

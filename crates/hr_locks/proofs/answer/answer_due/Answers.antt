@@ -1,4 +1,4 @@
-use Rattle.std.proofs.Common.{◌≡◌, ◌≢◌, false, ℕ, List, [], ◌∷◌, MatchOption, length, sym, ap, ◌∙◌, subst, arith}
+use Rattle.std.proofs.Common.{◌≡◌, ◌≢◌, false, ℕ, List, [], ◌∷◌, MatchOption, sym, ap, ◌∙◌, subst, arith}
 use Rattle.hr_base.specs.Lists.{has}
 use Rattle.hr_locks.specs.Locks.{is_in_the_way}
 use Rattle.hr_locks.specs.Waits.{wait_seen}

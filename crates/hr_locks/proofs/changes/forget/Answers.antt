@@ -1,6 +1,5 @@
-use Rattle.std.proofs.Common.{◌≡◌, ◌<◌, ◌+◌, suc, length, slice_set, sym, ap, ◌∙◌, subst, arith}
-use Rattle.hr_locks.specs.declared.wait.Wait.{Wait}
-use Rattle.hr_locks.specs.Waits.{pairs, without}
+use Rattle.std.proofs.Common.{◌≡◌, ◌<◌, ◌+◌, suc, length, slice_set, sym, subst, arith}
+use Rattle.hr_locks.specs.Waits.{pairs}
 use Rattle.hr_locks.proofs.WaitLemmas.{so_far, forget_one}
 use Rattle.hr_locks.proofs.changes.forget.Goals as goal
 

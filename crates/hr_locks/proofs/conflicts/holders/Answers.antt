@@ -1,48 +1,36 @@
-use Rattle.std.proofs.Common.{◌≡◌, ◌<◌, ◌≤◌, ◌&&◌, ◌==◌, ◌∙◌, true, not, length, get_or, take, ap, sym, subst, arith}
-use Rattle.std.specs.List.{list_any}
+use Rattle.std.proofs.Common.{◌≡◌, ◌<◌, ◌≤◌, ◌||◌, ◌&&◌, ◌==◌, ◌∙◌, not, [], ◌∷◌, length, ap, subst, arith}
 use Rattle.std.proofs.lemmas.List.{take_all}
 use Rattle.hr_base.specs.Lists.{has, is_ascending}
-use Rattle.hr_locks.specs.Locks.{is_conflict, is_in_the_way}
-use Rattle.hr_locks.proofs.HolderLemmas.{more_in_way, same_in_way, one_lock}
+use Rattle.hr_locks.specs.Locks.{is_in_the_way}
+use Rattle.hr_locks.proofs.HolderLemmas.{one_need, no_needs, shut_none}
 use Rattle.hr_locks.proofs.conflicts.holders.Goals as goal
-use Rattle.hr_locks.proofs.conflicts.holders.Goals.{then-is_in_the_way+in_ok-add, else-is_in_the_way}
 
-pub locks-preserved : goal.locks-preserved
-locks-preserved g c =
+pub needs-init : goal.needs-init
+needs-init g c = record {
+  ascending = ap is_ascending c.new-them.ensures.items;
+  all = λ t. ap (λ v. has v t) c.new-them.ensures.items ∙ shut_none (t == c.args.asker) (is_in_the_way g.N.LockName.meets c.args.locks.now [] t) (no_needs g.N.LockName.meets c.args.locks.now t);
+}
+
+pub needs-preserved : goal.needs-preserved
+needs-preserved g c =
     let meets = g.N.LockName.meets in
     let locks = c.args.locks.now in
     let needs = c.args.needs.now in
-    let asker = c.args.asker in
-    let at = c.locks.lock-index in
-    let lock = c.lock-item.result in
-    let within : at < length locks = omega (arith, c.locks-test.true) in
-    let is : lock ≡ get_or locks at lock = c.lock-item.is in
-    elim c.if-is_in_the_way.branch [
-      | then-is_in_the_way+in_ok-add w ↦ (
-          let now : c.if-is_in_the_way.them.items ≡ w.add.new.them.items = λ i. (w.them-is i).items in
-          record {
-            ascending = subst (λ v. is_ascending v ≡ true) (sym now) w.in_ok-add.ensures.ascending;
-            all = λ t. ap (λ v. has v t) now
-                ∙ more_in_way lock.txn t asker (is_in_the_way meets (take at locks) needs t) (list_any (λ need. is_conflict meets lock.need need) needs)
-                (has w.add.new.them.items t) (has c.locks.them.items t) (w.in_ok-add.ensures.added t) (c.locks.invariant.all t) (sym w.if-is_in_the_way.ensures)
-                ∙ one_lock meets locks needs at t asker lock within is;
-          })
-      | else-is_in_the_way w ↦ (
-          let now : c.if-is_in_the_way.them.items ≡ c.locks.them.items = λ i. (w.them-is i).items in
-          record {
-            ascending = subst (λ v. is_ascending v ≡ true) (sym now) c.locks.invariant.ascending;
-            all = λ t. ap (λ v. has v t) now
-                ∙ same_in_way lock.txn t asker (is_in_the_way meets (take at locks) needs t) (list_any (λ need. is_conflict meets lock.need need) needs)
-                (has c.locks.them.items t) (c.locks.invariant.all t) (sym w.if-is_in_the_way.ensures)
-                ∙ one_lock meets locks needs at t asker lock within is;
-          })
-    ]
+    let at = c.needs.need-index in
+    let need = c.need-item.result in
+    let within : at < length needs = omega (arith, c.needs-test.true) in
+    record {
+      ascending = c.in_ok-add_holders.ensures.ascending;
+      all = λ t. c.in_ok-add_holders.ensures.added t
+          ∙ ap (λ b. b || (not (t == c.args.asker) && is_in_the_way meets locks (need ∷ []) t)) (c.needs.invariant.all t)
+          ∙ one_need meets locks needs at t c.args.asker need within c.need-item.is;
+    }
 
 pub returns : goal.returns
 returns g c =
-    let past : length c.args.locks.now ≤ c.locks.lock-index = omega (arith, c.locks-test.false) in
+    let past : length c.args.needs.now ≤ c.needs.need-index = omega (arith, c.needs-test.false) in
     record {
-      ascending = c.locks.invariant.ascending;
-      all = λ t. subst (λ v. has c.locks.them.items t ≡ (not (t == c.args.asker) && is_in_the_way g.N.LockName.meets v c.args.needs.now t))
-          (take_all c.locks.lock-index c.args.locks.now past) (c.locks.invariant.all t);
+      ascending = c.needs.invariant.ascending;
+      all = λ t. subst (λ v. has c.needs.them.items t ≡ (not (t == c.args.asker) && is_in_the_way g.N.LockName.meets c.args.locks.now v t))
+          (take_all c.needs.need-index c.args.needs.now past) (c.needs.invariant.all t);
     }

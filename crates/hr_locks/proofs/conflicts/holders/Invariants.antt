@@ -3,8 +3,8 @@ use Rattle.hr_base.specs.Lists.{has, is_ascending}
 use Rattle.hr_locks.specs.Locks.{is_in_the_way}
 use Rattle.hr_locks.proofs.conflicts.holders.Given as goal
 
-abbrev pub invariant-locks : goal.invariant-locks
-invariant-locks g l = record {
+abbrev pub invariant-needs : goal.invariant-needs
+invariant-needs g l = record {
   ascending : IsTrue (is_ascending l.them.items);
-  all : (t : ℕ) → has l.them.items t ≡ (not (t == l.asker) && is_in_the_way g.N.LockName.meets (take l.lock-index l.locks) l.needs t);
+  all : (t : ℕ) → has l.them.items t ≡ (not (t == l.asker) && is_in_the_way g.N.LockName.meets l.locks (take l.need-index l.needs) t);
 }

@@ -1,8 +1,8 @@
-use Rattle.std.proofs.Common.{◌≡◌, ◌≤◌, ◌<◌, ◌+◌, ◌-◌, ◌∙◌, None, [], ◌∷◌, ◌++◌, true, length, get_or, map, take, reverse, sym, ap, subst, arith}
+use Rattle.std.proofs.Common.{◌≡◌, ◌≤◌, ◌<◌, ◌+◌, ◌-◌, ◌∙◌, None, [], ◌∷◌, ◌++◌, true, length, get_or, map, take, reverse, refl, sym, ap, subst, arith}
 use Rattle.hr_base.specs.Lists.{has}
 use Rattle.hr_locks.specs.declared.search.Link.{Link}
 use Rattle.hr_locks.specs.Waits.{wait_seen, next_in}
-use Rattle.hr_locks.specs.Searches.{routes}
+use Rattle.hr_locks.specs.Searches.{routes, AreFound}
 use Rattle.hr_locks.proofs.Links.{Searched, searched_first}
 use Rattle.hr_locks.proofs.Unread.{unread}
 use Rattle.hr_locks.proofs.Steps.{txn_of, next_step, less_left, head_here, here_is_route, here_is_closest, none_back}
@@ -14,8 +14,12 @@ pub queue-init : goal.queue-init
 queue-init c =
     let next = next_in (wait_seen c.args.granted c.args.waits.now) c.args.asker c.args.holders.now in
     let root : Link = record { txn = c.args.asker; by = None } in
-    subst (λ v. Searched next c.args.asker v 0)
-    (sym (c.in_ok-push.ensures.items ∙ ap (λ v. v ++ root ∷ []) c.new-queue.ensures.items)) (searched_first next c.args.asker)
+    let queue : root ∷ [] ≡ c.push.new.self.items = sym (c.in_ok-push.ensures.items ∙ ap (λ v. v ++ root ∷ []) c.new-queue.ensures.items) in
+    let found : c.args.asker ∷ [] ≡ c.push-2.new.self.items = sym (c.in_ok-push-2.ensures.items ∙ ap (λ v. v ++ c.args.asker ∷ []) c.new-found.ensures.items) in
+    record {
+      searched = subst (λ v. Searched next c.args.asker v 0) queue (searched_first next c.args.asker);
+      found = subst (λ v. AreFound v c.push.new.self.items) found (subst (λ v. AreFound (c.args.asker ∷ []) v) queue (record { ascending = refl; all = λ t. refl }));
+    }
 
 pub queue-preserved : goal.queue-preserved
 queue-preserved c =
@@ -26,10 +30,13 @@ queue-preserved c =
     let within : c.queue.at < length links = omega (arith, same, c.deref.ensures.len, c.len.ensures, c.queue-test.true) in
     let is : link ≡ get_or links c.queue.at link = c.link_at-link.ensures ∙ ap (λ v. get_or v c.queue.at link) c.deref.ensures.value in
     let to : link.txn ≡ head_of (get_or (routes links) c.queue.at []) =
-    ap txn_of is ∙ sym (head_here next c.args.asker links c.queue.at c.queue.invariant within link) in
-    subst (λ v. Searched next c.args.asker v (c.queue.at + 1)) (sym (c.in_ok-lead_on.ensures {u = tt}))
-    (next_step next c.args.asker links c.queue.at c.queue.invariant within c.next_of-names.result.now
-    (c.next_of-names.ensures.names ∙ ap next to) c.next_of-names.ensures.ascending (sym c.if-waits_for.ensures))
+    ap txn_of is ∙ sym (head_here next c.args.asker links c.queue.at c.queue.invariant.searched within link) in
+    record {
+      searched = subst (λ v. Searched next c.args.asker v (c.queue.at + 1)) (sym c.in_ok-lead_on.ensures.queue)
+          (next_step next c.args.asker links c.queue.at c.queue.invariant.searched within c.next_of-names.result.now
+          (c.next_of-names.ensures.names ∙ ap next to) c.next_of-names.ensures.ascending (sym c.if-waits_for.ensures));
+      found = c.in_ok-lead_on.ensures.found;
+    }
 
 pub queue-smaller : goal.queue-smaller
 queue-smaller c =
@@ -42,8 +49,8 @@ queue-smaller c =
     let is : link ≡ get_or links at link = c.link_at-link.ensures ∙ ap (λ v. get_or v at link) c.deref.ensures.value in
     let unread_by = unread c.args.asker c.args.holders.now c.args.waits.now in
     subst (λ v. unread_by (map txn_of (take (at + 1) v)) + (length v - (at + 1)) < unread_by (map txn_of (take at links)) + (length links - at))
-    (sym (c.in_ok-lead_on.ensures {u = tt}))
-    (less_left c.args.granted c.args.asker c.args.holders.now c.args.waits.now links at link c.queue.invariant within c.next_of-names.result.now
+    (sym c.in_ok-lead_on.ensures.queue)
+    (less_left c.args.granted c.args.asker c.args.holders.now c.args.waits.now links at link c.queue.invariant.searched within c.next_of-names.result.now
     (c.next_of-names.ensures.names ∙ ap next (ap txn_of is)))
 
 pub returns-then-waits_for : goal.returns-then-waits_for
@@ -57,12 +64,12 @@ returns-then-waits_for c =
     let within : at < length links = omega (arith, same, c.deref.ensures.len, c.len.ensures, c.queue-test.true) in
     let is : link ≡ get_or links at link = c.link_at-link.ensures ∙ ap (λ v. get_or v at link) c.deref.ensures.value in
     let route = get_or (routes links) at [] in
-    let to : link.txn ≡ head_of route = ap txn_of is ∙ sym (head_here next c.args.asker links at c.queue.invariant within link) in
+    let to : link.txn ≡ head_of route = ap txn_of is ∙ sym (head_here next c.args.asker links at c.queue.invariant.searched within link) in
     let back : has (next (head_of route)) c.args.asker ≡ true =
     ap (λ v. has v c.args.asker) (sym (c.next_of-names.ensures.names ∙ ap next to)) ∙ sym c.if-waits_for.ensures in
     let told = closing.told_cycle waits c.args.asker c.args.holders.now route c.requires.others
-    (here_is_route next c.args.asker links at c.queue.invariant within) back
-    (here_is_closest next c.args.asker links at c.queue.invariant within back) in (
+    (here_is_route next c.args.asker links at c.queue.invariant.searched within) back
+    (here_is_closest next c.args.asker links at c.queue.invariant.searched within back) in (
       told.0,
       c.in_ok-cycle_to.ensures ∙ ap (λ v. reverse (get_or (routes v) at [])) c.deref-then-waits_for.ensures.value ∙ told.1,
       told.2,
@@ -74,4 +81,4 @@ returns c =
     let next = next_in waits c.args.asker c.args.holders.now in
     let links = c.queue.queue.items in
     let past : length links ≤ c.queue.at = omega (arith, c.len.ensures, c.queue-test.false, c.queue.queue.ok) in
-    closing.no_cycle waits c.args.asker c.args.holders.now (none_back next c.args.asker links c.queue.at c.queue.invariant past)
+    closing.no_cycle waits c.args.asker c.args.holders.now (none_back next c.args.asker links c.queue.at c.queue.invariant.searched past)

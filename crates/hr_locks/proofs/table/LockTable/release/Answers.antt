@@ -5,6 +5,7 @@ use Rattle.hr_locks.specs.Waits.{without, pairs, named_in, seen_waits, waits_of_
 use Rattle.hr_locks.specs.Table.{wait_of}
 use Rattle.hr_locks.specs.Seen.{waiter_of}
 use Rattle.hr_locks.proofs.WaitLemmas.{seen_wait, parted, forgotten_wait}
+use Rattle.hr_locks.proofs.Apart.{apart_release}
 use Rattle.hr_locks.proofs.table.LockTable.release.Goals as goal
 
 -- as many waits as there were
@@ -34,3 +35,6 @@ returns-clause-waits g c = λ t.
     ∙ seen_wait None new t
     ∙ forgotten_wait txn waiter old dropped new t is_dropped is_parted
     ∙ ap (λ v. if t == txn then [] else without txn v) (sym (seen_wait waiter old t) ∙ ap (λ v. wait_of v t) c.self.view_is)
+
+pub invariant_of-self : goal.invariant_of-self
+invariant_of-self g c = apart_release g.N.LockName.meets c.args.txn c.self.inside.locks.items c.drop_locks.new.locks.items c.drop_locks.ensures c.self.invariant
