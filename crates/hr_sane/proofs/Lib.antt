@@ -23,3 +23,4 @@ pub mod Totals
 pub mod Rooms
 pub mod MeasureLaws
 pub mod RoomLaws
+pub mod Outcomes

@@ -1,5 +1,5 @@
 //! The laws.
-ghost use Rattle.std.specs.Prelude.{◌≡◌, ℕ, ◌+◌, ◌≤◌, true, Some, List, [], ◌∷◌, length, IsTrue};
+ghost use Rattle.std.specs.Prelude.{◌≡◌, ◌↔◌, ℕ, ◌+◌, ◌*◌, ◌<◌, ◌≤◌, true, false, Some, Ok, List, [], ◌∷◌, length, IsTrue};
 ghost use Rattle.hr_history.specs.declared.entry.Entry.{Entry};
 ghost use Rattle.hr_history.specs.declared.entry.Event.{Event};
 ghost use Rattle.hr_history.specs.History.{History, history_of, is_call};
@@ -7,8 +7,18 @@ ghost use Rattle.hr_history.specs.Faithful.{Begun, Faithful, is_allowed};
 ghost use Rattle.hr_history.specs.Transactions.{asks};
 ghost use Rattle.hr_history.specs.Turn.{Turn, turn_of};
 ghost use Rattle.hr_history.specs.Rules.{due_in};
+ghost use Rattle.hr_history.specs.Turn.{is_sound_count};
 ghost use Rattle.hr_history.specs.View.{View, view_of};
+ghost use Rattle.hr_history.specs.Processed.{replica_in};
+ghost use Rattle.hr_history.specs.Votes.{is_decidable, is_contradicted, contradicted_by, difference_at};
+ghost use Rattle.hr_history.specs.Words.{IsDecidable, IsContradicted};
+ghost use Rattle.hr_history.specs.Replicas.{journal_of};
 ghost use Rattle.hr_history.specs.Step.{view_step};
+ghost use Rattle.hr_engine.specs.Journal.{Restarted};
+ghost use Rattle.hr_engine.specs.Base.{count};
+ghost use Rattle.hr_moves.specs.declared.outcome.Tally.TheVariants.{Undecided, Accept, Differ};
+ghost use Rattle.hr_moves.specs.declared.outcome.Settled.TheVariants.{At, Wrong};
+ghost use Rattle.hr_moves.specs.Outcomes.{tally_in, settle_in};
 ghost use Rattle.hr_moves.specs.Sane.{IsSane};
 ghost use Rattle.hr_moves.specs.Fits.{Fits};
 ghost use Rattle.hr_moves.specs.Moves.{view_after};
@@ -62,4 +72,18 @@ pub fn measure_falls()
 /// reserved when the job was given.
 pub fn room_is_kept()
     ensures { (v : View) (place asks : ℕ) (e : Event) → IsSane v → Fits v e → is_call e ≡ true → room_in (view_step v place asks e) + 1 ≤ room_in v + reserved_by e }
+{}
+
+/// What the votes are told to say is what they say: Accept where the transaction may be decided, Differ where its given
+/// answers are contradicted, with the lowest replica that does so and the first answer that it gave otherwise.
+pub fn votes_are_told()
+    ensures accept { (f t : ℕ) (h : History) → tally_in (view_of f h) t ≡ Accept ↔ IsDecidable f h t }
+    ensures differ { (f t index by : ℕ) (h : History) → tally_in (view_of f h) t ≡ Differ index by ↔ IsContradicted f h t × (contradicted_by (view_of f h) t ≡ Some by) × (index ≡ difference_at (view_of f h) by t) }
+    ensures undecided { (f t : ℕ) (h : History) → tally_in (view_of f h) t ≡ Undecided ↔ (is_decidable (view_of f h) t ≡ false) × (is_contradicted (view_of f h) t ≡ false) }
+{}
+
+/// A restart's count is Wrong exactly where it can't be right, and else as many commits count after the restart.
+pub fn restarts_are_settled()
+    ensures wrong { (f r told : ℕ) (h : History) → r < 2 * f + 1 → settle_in (replica_in (view_of f h) r) told ≡ Wrong ↔ (is_sound_count told (journal_of r h) ≡ false) }
+    ensures at { (f r told n : ℕ) (h : History) → r < 2 * f + 1 → settle_in (replica_in (view_of f h) r) told ≡ At n → n ≡ count (Restarted (Ok told) ∷ journal_of r h) }
 {}
