@@ -24,3 +24,4 @@ pub mod Rooms
 pub mod MeasureLaws
 pub mod RoomLaws
 pub mod Outcomes
+pub mod KeptLists

@@ -21,6 +21,7 @@ ghost use Rattle.hr_moves.specs.declared.outcome.Settled.TheVariants.{At, Wrong}
 ghost use Rattle.hr_moves.specs.Outcomes.{tally_in, settle_in};
 ghost use Rattle.hr_moves.specs.Sane.{IsSane};
 ghost use Rattle.hr_moves.specs.Fits.{Fits};
+ghost use Rattle.hr_moves.specs.Kept.{open_in, touched_in, next_open, next_touched_in};
 ghost use Rattle.hr_moves.specs.Moves.{view_after};
 ghost use Rattle.hr_moves.specs.Measure.{todo_in, room_in, reserved_by};
 ghost use Rattle.hr_moves.specs.TurnSteps.{turn_step};
@@ -86,4 +87,11 @@ pub fn votes_are_told()
 pub fn restarts_are_settled()
     ensures wrong { (f r told : ℕ) (h : History) → r < 2 * f + 1 → settle_in (replica_in (view_of f h) r) told ≡ Wrong ↔ (is_sound_count told (journal_of r h) ≡ false) }
     ensures at { (f r told n : ℕ) (h : History) → r < 2 * f + 1 → settle_in (replica_in (view_of f h) r) told ≡ At n → n ≡ count (Restarted (Ok told) ∷ journal_of r h) }
+{}
+
+/// What is kept beside a sane view needs no look at every transaction: an event adds one to the open ones or takes one away,
+/// and so it does with the touched ones of a replica, or takes all of them away.
+pub fn kept_lists()
+    ensures opened { (v : View) (place asks : ℕ) (e : Event) → IsSane v → Fits v e → open_in (view_step v place asks e) ≡ next_open e (open_in v) }
+    ensures touched { (v : View) (place asks r : ℕ) (e : Event) → IsSane v → Fits v e → touched_in (view_step v place asks e) r ≡ next_touched_in r e (replica_in v r).out (touched_in v r) }
 {}
