@@ -25,3 +25,4 @@ pub mod MeasureLaws
 pub mod RoomLaws
 pub mod Outcomes
 pub mod KeptLists
+pub mod ProcessedLaws

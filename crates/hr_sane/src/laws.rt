@@ -9,7 +9,7 @@ ghost use Rattle.hr_history.specs.Turn.{Turn, turn_of};
 ghost use Rattle.hr_history.specs.Rules.{due_in};
 ghost use Rattle.hr_history.specs.Turn.{is_sound_count};
 ghost use Rattle.hr_history.specs.View.{View, view_of};
-ghost use Rattle.hr_history.specs.Processed.{replica_in};
+ghost use Rattle.hr_history.specs.Processed.{replica_in, processed_in};
 ghost use Rattle.hr_history.specs.Votes.{is_decidable, is_contradicted, contradicted_by, difference_at};
 ghost use Rattle.hr_history.specs.Words.{IsDecidable, IsContradicted};
 ghost use Rattle.hr_history.specs.Replicas.{journal_of};
@@ -21,7 +21,7 @@ ghost use Rattle.hr_moves.specs.declared.outcome.Settled.TheVariants.{At, Wrong}
 ghost use Rattle.hr_moves.specs.Outcomes.{tally_in, settle_in};
 ghost use Rattle.hr_moves.specs.Sane.{IsSane};
 ghost use Rattle.hr_moves.specs.Fits.{Fits};
-ghost use Rattle.hr_moves.specs.Kept.{open_in, touched_in, next_open, next_touched_in};
+ghost use Rattle.hr_moves.specs.Kept.{open_in, touched_in, next_open, next_touched_in, still_processed, processed_from};
 ghost use Rattle.hr_moves.specs.Moves.{view_after};
 ghost use Rattle.hr_moves.specs.Measure.{todo_in, room_in, reserved_by};
 ghost use Rattle.hr_moves.specs.TurnSteps.{turn_step};
@@ -89,9 +89,11 @@ pub fn restarts_are_settled()
     ensures at { (f r told n : ℕ) (h : History) → r < 2 * f + 1 → settle_in (replica_in (view_of f h) r) told ≡ At n → n ≡ count (Restarted (Ok told) ∷ journal_of r h) }
 {}
 
-/// What is kept beside a sane view needs no look at every transaction: an event adds one to the open ones or takes one away,
-/// and so it does with the touched ones of a replica, or takes all of them away.
+/// What is kept beside a sane view needs no look at every transaction. An event adds one to the open ones or takes one away,
+/// and so it does with the touched ones of a replica, or takes all of them away. How many of the log are processed at a
+/// replica is found from the place in the log up to which the event leaves that as it was.
 pub fn kept_lists()
     ensures opened { (v : View) (place asks : ℕ) (e : Event) → IsSane v → Fits v e → open_in (view_step v place asks e) ≡ next_open e (open_in v) }
     ensures touched { (v : View) (place asks r : ℕ) (e : Event) → IsSane v → Fits v e → touched_in (view_step v place asks e) r ≡ next_touched_in r e (replica_in v r).out (touched_in v r) }
+    ensures processed { (v : View) (place asks r : ℕ) (e : Event) → IsSane v → Fits v e → processed_in (view_step v place asks e) r ≡ processed_from (view_step v place asks e) r (still_processed v r e) }
 {}
