@@ -12,7 +12,7 @@ use Rattle.hr_history.specs.Processed.{phase_in, replica_in, attempt_in, live_in
 use Rattle.hr_history.specs.Jobs.{job_in}
 use Rattle.hr_history.specs.Faithful.{fits_job, is_restart}
 use Rattle.hr_moves.specs.Kept.{entries_in}
-use Rattle.hr_moves.specs.Sane.{IsReplica, IsKnown}
+use Rattle.hr_moves.specs.Sane.{IsReplica}
 
 -- a transaction is open
 abbrev pub IsOpen : View → ℕ → Type 0
@@ -23,12 +23,12 @@ abbrev pub HasRoom : View → ℕ → Job → Type 0
 HasRoom v r (job.Run t i) = length (and_dispatched t (entries_in v r)) ≤ MAX_SUBMITS
 HasRoom v r _ = Unit {0}
 
--- Begin: the number is the next. Submit: there is such a transaction. AskCommit, AskRollback, Decide, Refuse: it is open.
+-- Begin: the number is the next. Submit, AskCommit, AskRollback, Decide, Refuse: the transaction is open.
 -- Take: this is the replica's job. Give, Restarted: such a job is out. NewPrimary: the replica is live. Preempt: there is
 -- something to roll back.
 abbrev pub Fits : View → Event → Type 0
 Fits v (event.Begin session txn) = txn ≡ length v.txns + 1
-Fits v (event.Submit txn index stmt) = IsKnown v txn
+Fits v (event.Submit txn index stmt) = IsOpen v txn
 Fits v (event.AskCommit txn) = IsOpen v txn
 Fits v (event.AskRollback txn) = IsOpen v txn
 Fits v (event.Take replica job) = IsReplica v replica × (job_in v replica ≡ Some job) × HasRoom v replica job

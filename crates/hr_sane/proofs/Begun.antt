@@ -218,9 +218,7 @@ module _ (f s : ℕ) where
 
     fits_next : (e : Event) → Starts e → Fits v e
     fits_next (event.Begin session txn) start = omega (arith, (begin_allowed f s c h session txn (allowed (event.Begin session txn) start refl)).0, how_many f h)
-    fits_next (event.Submit txn index stmt) start =
-        let g = (submit_allowed f s c h txn index stmt (allowed (event.Submit txn index stmt) start refl)).0 in
-        known txn (numbered_born (begun h) txn g.session g.its)
+    fits_next (event.Submit txn index stmt) start = goes_open txn (submit_allowed f s c h txn index stmt (allowed (event.Submit txn index stmt) start refl)).0
     fits_next (event.AskCommit txn) start = goes_open txn (may_go_on f c txn h (allowed (event.AskCommit txn) start refl))
     fits_next (event.AskRollback txn) start = goes_open txn (may_go_on f c txn h (allowed (event.AskRollback txn) start refl))
     fits_next (event.Take q j) start =

@@ -225,7 +225,7 @@ module _ (v : View) (place asks : ℕ) where
 
   pub unknown_at : (e : Event) (t : ℕ) → Fits v e → (IsKnown v t → ⊥) → txn_in v t ≡ unknown_txn → TxnAt v place asks e t
   unknown_at (event.Begin session u) t fits far was = begins session u t fits far was
-  unknown_at (event.Submit u index stmt) t fits far was = stays (event.Submit u index stmt) t (no_more (event.Submit u index stmt) t refl far) was (on_false (u == t) (0 + 1) 0 (not_this u t fits far)) refl refl
+  unknown_at (event.Submit u index stmt) t fits far was = stays (event.Submit u index stmt) t (no_more (event.Submit u index stmt) t refl far) was (on_false (u == t) (0 + 1) 0 (not_open u t fits far)) refl refl
   unknown_at (event.AskCommit u) t fits far was = stays (event.AskCommit u) t (no_more (event.AskCommit u) t refl far) was refl refl (on_false (u == t) _ phase.Refused (not_open u t fits far))
   unknown_at (event.AskRollback u) t fits far was = stays (event.AskRollback u) t (no_more (event.AskRollback u) t refl far) was refl refl (on_false (u == t) _ phase.Refused (not_open u t fits far))
   unknown_at (event.Give q told) t fits far was =

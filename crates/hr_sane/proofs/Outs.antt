@@ -112,7 +112,7 @@ count_grows v t n (event.Begin session u) fits known =
 count_grows v t n (event.Submit u index stmt) fits known = count_if (u == t) n
 count_grows v t n _ fits known = omega arith
 
-log_front : (e : Event) (log : List ℕ) (i t : ℕ) → slice_get log i ≡ Some t → slice_get (next_log e log) i ≡ Some t
+pub log_front : (e : Event) (log : List ℕ) (i t : ℕ) → slice_get log i ≡ Some t → slice_get (next_log e log) i ≡ Some t
 log_front (event.Decide u) log i t h = got_front log (u ∷ []) i t h
 log_front _ log i t h = h
 
