@@ -1,0 +1,28 @@
+use Rattle.std.proofs.Common.{◌≡◌, ◌+◌, ◌≤◌, sym, ◌∙◌, ap, subst, refl, arith}
+use Rattle.hr_history.specs.declared.phase.Phase.TheVariants as phase
+use Rattle.hr_history.specs.View.{View, TxnState}
+use Rattle.hr_moves.specs.Sane.{IsSane}
+use Rattle.hr_moves.specs.Fits.{IsOpen}
+use Rattle.hr_moves.specs.Moves.{after_refuse}
+use Rattle.hr_progress.specs.Plain.{PlainView, plain, to_phase}
+use Rattle.hr_progress.specs.Seen.{seen_plain}
+use Rattle.hr_progress.specs.Kept.{IsKept, ArePlaces}
+use Rattle.hr_progress.proofs.Txns.{with_end, seen_end, kept_end, places_end, closed, opened_plain}
+use Rattle.hr_progress.proofs.view.View.refuse.Goals as goal
+
+moved : (c : goal.After-close) → plain record c.self.inside { txns = c.set_phase.new.txns; opened = c.close.new.opened } ≡ with_end (plain c.self.inside) c.args.txn (to_phase phase.Refused)
+moved c = λ i. record (plain c.self.inside) { txns = c.set_phase.ensures.phase i; opened = c.close.ensures.others i }
+
+pub returns : goal.returns
+returns c = ap seen_plain (moved c) ∙ seen_end (plain c.self.inside) c.args.txn (to_phase phase.Refused) (λ (x : TxnState). record x { phase = phase.Refused }) (λ x. refl) ∙ ap (λ v. after_refuse v c.args.txn) c.self.view_is
+
+pub invariant_of-self : goal.invariant_of-self
+invariant_of-self c =
+    let p = plain c.self.inside in
+    let sane = subst IsSane (sym c.self.view_is) c.requires.sane in
+    let opened = subst (λ (v : View). IsOpen v c.args.txn) (sym c.self.view_is) c.requires.open in
+    record {
+      kept = subst IsKept (sym (moved c)) (kept_end p c.args.txn (to_phase phase.Refused) (opened_plain p c.args.txn opened) (closed p sane) c.self.invariant.kept refl);
+      places = subst ArePlaces (sym (moved c)) (places_end p c.args.txn (to_phase phase.Refused) (λ x. refl) c.self.invariant.places);
+      room = omega (arith, c.self.invariant.room, c.close.ensures.fewer);
+    }

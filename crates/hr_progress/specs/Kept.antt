@@ -1,0 +1,85 @@
+-- What holds of the fields of every `View`.
+use Rattle.std.specs.Prelude.{◌≡◌, ℕ, ◌+◌, ◌≤◌, Bool, true, false, ◌||◌, ◌==◌, Option, Some, List, [], ◌∷◌, filter, length, slice_get, take_while, IsTrue}
+use Rattle.std.specs.Prelude.{vec_len, vec_capacity}
+use Rattle.hr_base.specs.Lists.{is_empty, one_to}
+use Rattle.hr_engine.specs.declared.reply.RunReply.{RunReply}
+use Rattle.hr_engine.specs.declared.reply.RunReply.TheVariants as run
+use Rattle.hr_history.specs.Transactions.{is_open}
+use Rattle.hr_history.specs.Processed.{is_logged_by}
+use Rattle.hr_progress.specs.declared.view.View.TheInside.{Inside}
+use Rattle.hr_progress.specs.declared.txn.Given.{Given}
+use Rattle.hr_progress.specs.declared.attempt.Told.{Told}
+use Rattle.hr_progress.specs.Plain.{PlainTxn, PlainAttempt, PlainProgress, PlainView, plain, plain_txn_in, plain_attempt_in, plain_replica_in}
+
+abbrev pub is_answer : Option RunReply → Bool
+is_answer (Some (run.Done answer)) = true
+is_answer _ = false
+
+abbrev pub is_wait : Option RunReply → Bool
+is_wait (Some (run.Blocked named)) = true
+is_wait (Some (run.Deadlock cycle)) = true
+is_wait _ = false
+
+module _ (replies : List RunReply) where
+  -- an answer stands at each of these places among the replies
+  abbrev pub AreAnswers : List ℕ → Type 0
+  AreAnswers [] = Unit {0}
+  AreAnswers (place ∷ places) = IsTrue (is_answer (slice_get replies place)) × AreAnswers places
+
+  abbrev pub told_places : List Told → List ℕ
+  told_places [] = []
+  told_places (t ∷ ts) = t.reply ∷ told_places ts
+
+  abbrev pub given_places : List Given → List ℕ
+  given_places [] = []
+  given_places (g ∷ gs) = g.reply ∷ given_places gs
+
+  -- where an attempt's answers stand, and where it began, an answer stands; where its last reply does, one that tells of waits
+  pub record IsTold (a : PlainAttempt) : Type 0 where
+    pub answers : AreAnswers (told_places a.answers)
+    pub began : is_empty a.answers ≡ false → IsTrue (is_answer (slice_get replies a.began))
+    pub last : (place : ℕ) → a.last ≡ Some place → IsTrue (is_wait (slice_get replies place))
+
+-- the open transactions
+abbrev pub opened_of : List PlainTxn → List ℕ
+opened_of txns = filter (λ t. is_open (plain_txn_in txns t).phase) (one_to (length txns))
+
+-- of so many transactions those that have something to roll back at a replica
+abbrev pub touched_of : ℕ → List (ℕ × PlainAttempt) → List ℕ
+touched_of n entries = filter (λ t. (plain_attempt_in entries t).touched) (one_to n)
+
+-- committed at a replica, or whole there
+abbrev pub is_processed_at : List PlainTxn → PlainProgress → ℕ → Bool
+is_processed_at txns q t =
+    is_logged_by q.position (plain_txn_in txns t).phase || (length (plain_attempt_in q.attempts t).answers == (plain_txn_in txns t).statements)
+
+-- how many of the log, from its first on, are processed at a replica
+abbrev pub processed_of : List PlainTxn → List ℕ → PlainProgress → ℕ
+processed_of txns log q = length (take_while (is_processed_at txns q) log)
+
+-- what is kept of a replica beside the record is what the record tells
+pub record IsCounted (txns : List PlainTxn) (log : List ℕ) (q : PlainProgress) : Type 0 where
+  pub touched : q.touched ≡ touched_of (length txns) q.attempts
+  pub processed : q.processed ≡ processed_of txns log q
+
+pub record IsKept (p : PlainView) : Type 0 where
+  pub opened : p.opened ≡ opened_of p.txns
+  pub counted : (r : ℕ) → IsCounted p.txns p.log (plain_replica_in p.replicas r)
+
+-- an answer, or a list of those waited for, stands at each place that is kept
+abbrev pub AreTold : List RunReply → List (ℕ × PlainAttempt) → Type 0
+AreTold replies [] = Unit {0}
+AreTold replies (e ∷ es) = IsTold replies e.1 × AreTold replies es
+
+pub record ArePlaces (p : PlainView) : Type 0 where
+  pub told : (r : ℕ) → AreTold p.replies (plain_replica_in p.replicas r).attempts
+  pub given : (t : ℕ) → AreAnswers p.replies (given_places p.replies (plain_txn_in p.txns t).given)
+
+-- a place in the log is free for each open transaction
+abbrev pub HasRoom : Inside → Type 0
+HasRoom v = vec_len v.log + vec_len v.opened ≤ vec_capacity v.log
+
+pub record IsWhole (v : Inside) : Type 0 where
+  pub kept : IsKept (plain v)
+  pub places : ArePlaces (plain v)
+  pub room : HasRoom v
