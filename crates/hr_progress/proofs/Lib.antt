@@ -1,8 +1,13 @@
 pub mod Changed
 pub mod Numbers
+pub mod Replicas
+pub mod Attempts
+pub mod Preempts
 pub mod Starts
 pub mod Cuts
 pub mod Parts
+pub mod Entries
+pub mod Lookups
 pub mod Rests
 pub mod Txns
 pub mod Words

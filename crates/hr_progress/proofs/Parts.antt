@@ -26,7 +26,7 @@ pub unwrap_map : {X Y : Type 0} (h : X → Y) (o : Option X) (x : X) (y : Y) →
 unwrap_map h None x y e = sym e
 unwrap_map h (Some z) x y e = refl
 
-got_map : {X Y : Type 0} (h : X → Y) (xs : List X) (i : ℕ) → slice_get (map h xs) i ≡ option_map h (slice_get xs i)
+pub got_map : {X Y : Type 0} (h : X → Y) (xs : List X) (i : ℕ) → slice_get (map h xs) i ≡ option_map h (slice_get xs i)
 got_map h [] i = refl
 got_map h (x ∷ xs) zero = refl
 got_map h (x ∷ xs) (suc i) = got_map h xs i

@@ -51,6 +51,7 @@ began_early replies began place a w newest = by (nat_eq began place) refl
   where
     within : began < length replies
     within = answer_within replies began a
+
     by : (b : Bool) → nat_eq began place ≡ b → nat_lt began place ≡ true
     by true e = absurd (answer_or_wait (slice_get replies place) (ap (λ k. is_answer (slice_get replies k)) (sym (eqb-true began place e)) ∙ a) w)
     by false e = lt-ltb began place (le_or began place (λ past. apart (omega (arith, past, newest, within)) e))
@@ -101,7 +102,7 @@ module _ (p : PlainView) (places : ArePlaces p) where
       newest e u =
           let told = told_at p.replies entries (places.told r) u in
           runs_seen u ∙ and_if (not (is_empty (plain_attempt_in entries u).answers)) (nat_lt (plain_attempt_in entries u).began place)
-              (λ runs. began_early p.replies (plain_attempt_in entries u).began place (told.began (not_true (is_empty (plain_attempt_in entries u).answers) runs)) waits e)
+          (λ runs. began_early p.replies (plain_attempt_in entries u).began place (told.began (not_true (is_empty (plain_attempt_in entries u).answers) runs)) waits e)
 
       last_by : (b : Bool) → (place + 1 == length p.replies) ≡ b
           → cut_to (runs_in (seen_plain p) r) (if b then waits_at p.replies place else cut_to (runs_since entries place) (waits_at p.replies place))

@@ -27,7 +27,7 @@ given_first zero = tt
 given_first (suc n) = tt
 
 pub kept_first : (f : ℕ) → IsKept (at_first f)
-kept_first f = record { opened = refl; counted = λ r. subst (IsCounted [] []) (sym (idle_at (2 * f + 1) r)) record { touched = refl; processed = refl } }
+kept_first f = record { opened = refl; counted = λ r h. subst (IsCounted [] []) (sym (idle_at (2 * f + 1) r)) record { touched = refl; processed = refl } }
 
 pub places_first : (f : ℕ) → ArePlaces (at_first f)
 places_first f = record { told = λ r. subst (λ (p : PlainProgress). AreTold [] p.attempts) (sym (idle_at (2 * f + 1) r)) tt; given = given_first }

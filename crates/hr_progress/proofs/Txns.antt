@@ -66,7 +66,7 @@ module _ (txns : List PlainTxn) (t : ℕ) (g : PlainTxn → PlainTxn) where
       touched = counted.touched ∙ ap (λ n. touched_of n q.attempts) (sym one_long);
       processed = counted.processed ∙ ap length (take_while_agree _ _ log (λ u h.
           ap (λ (x : PlainTxn). is_logged_by q.position x.phase || (length (plain_attempt_in q.attempts u).answers == x.statements))
-              (sym (one_else u (λ same. clash (ap (λ w. is_open (plain_txn_in txns w).phase) same ∙ opened) (shut u h))))));
+          (sym (one_else u (λ same. clash (ap (λ w. is_open (plain_txn_in txns w).phase) same ∙ opened) (shut u h))))));
     }
 
     -- it ends
@@ -126,11 +126,11 @@ module _ (p : PlainView) (t : ℕ) (g : PlainTxn → PlainTxn) where
     pub kept_end : is_open (g (plain_txn_in p.txns t)).phase ≡ false → IsKept with_end
     kept_end ends = record {
       opened = ap (filter (λ u. not (u == t))) kept.opened ∙ opened_fewer p.txns t g opened ends;
-      counted = λ r. counted_one p.txns t g opened p.log (plain_replica_in p.replicas r) shut (kept.counted r);
+      counted = λ r h. counted_one p.txns t g opened p.log (plain_replica_in p.replicas r) shut (kept.counted r h);
     }
 
     pub kept_open : is_open (g (plain_txn_in p.txns t)).phase ≡ true → IsKept with_open
     kept_open stays = record {
       opened = kept.opened ∙ opened_same p.txns t g opened stays;
-      counted = λ r. counted_one p.txns t g opened p.log (plain_replica_in p.replicas r) shut (kept.counted r);
+      counted = λ r h. counted_one p.txns t g opened p.log (plain_replica_in p.replicas r) shut (kept.counted r h);
     }

@@ -31,6 +31,6 @@ module _ (p : PlainView) where
     pub answers_seen : (t : ℕ) → length (attempt_in (seen_plain p) r t).answers ≡ length (plain_attempt_in (plain_replica_in p.replicas r).attempts t).answers
     answers_seen t = ap (λ (x : Attempt). length x.answers) (attempt_seen p r t) ∙ length-map (plain_attempt_in (plain_replica_in p.replicas r).attempts t).answers (λ (a : Told). answer_at p.replies a.reply)
 
-    pub processed_seen : processed_of p.txns p.log (plain_replica_in p.replicas r) ≡ processed_in (seen_plain p) r
+    pub processed_seen : processed_of p.txns p.log (plain_replica_in p.replicas r).position (plain_replica_in p.replicas r).attempts ≡ processed_in (seen_plain p) r
     processed_seen = ap length (take_while_agree _ _ p.log (λ t h. λ i.
         is_logged_by (sym (replica_seen p r) i).position (sym (txn_seen p t) i).phase || (sym (answers_seen t) i == (sym (txn_seen p t) i).statements)))

@@ -1,5 +1,5 @@
 -- What holds of the fields of every `View`.
-use Rattle.std.specs.Prelude.{◌≡◌, ℕ, ◌+◌, ◌≤◌, Bool, true, false, ◌||◌, ◌==◌, Option, Some, List, [], ◌∷◌, filter, length, slice_get, take_while, IsTrue}
+use Rattle.std.specs.Prelude.{◌≡◌, ℕ, ◌+◌, ◌<◌, ◌≤◌, Bool, true, false, ◌||◌, ◌==◌, Option, Some, List, [], ◌∷◌, filter, length, slice_get, take_while, IsTrue}
 use Rattle.std.specs.Prelude.{vec_len, vec_capacity}
 use Rattle.hr_base.specs.Lists.{is_empty, one_to}
 use Rattle.hr_engine.specs.declared.reply.RunReply.{RunReply}
@@ -7,6 +7,7 @@ use Rattle.hr_engine.specs.declared.reply.RunReply.TheVariants as run
 use Rattle.hr_history.specs.Transactions.{is_open}
 use Rattle.hr_history.specs.Processed.{is_logged_by}
 use Rattle.hr_progress.specs.declared.view.View.TheInside.{Inside}
+use Rattle.hr_progress.specs.declared.txn.TxnState.{TxnState}
 use Rattle.hr_progress.specs.declared.txn.Given.{Given}
 use Rattle.hr_progress.specs.declared.attempt.Told.{Told}
 use Rattle.hr_progress.specs.Plain.{PlainTxn, PlainAttempt, PlainProgress, PlainView, plain, plain_txn_in, plain_attempt_in, plain_replica_in}
@@ -48,23 +49,27 @@ opened_of txns = filter (λ t. is_open (plain_txn_in txns t).phase) (one_to (len
 abbrev pub touched_of : ℕ → List (ℕ × PlainAttempt) → List ℕ
 touched_of n entries = filter (λ t. (plain_attempt_in entries t).touched) (one_to n)
 
--- committed at a replica, or whole there
-abbrev pub is_processed_at : List PlainTxn → PlainProgress → ℕ → Bool
-is_processed_at txns q t =
-    is_logged_by q.position (plain_txn_in txns t).phase || (length (plain_attempt_in q.attempts t).answers == (plain_txn_in txns t).statements)
+-- committed at a replica that has so many commits and these entries, or whole there
+abbrev pub is_processed_at : List PlainTxn → ℕ → List (ℕ × PlainAttempt) → ℕ → Bool
+is_processed_at txns position entries t =
+    is_logged_by position (plain_txn_in txns t).phase || (length (plain_attempt_in entries t).answers == (plain_txn_in txns t).statements)
 
--- how many of the log, from its first on, are processed at a replica
-abbrev pub processed_of : List PlainTxn → List ℕ → PlainProgress → ℕ
-processed_of txns log q = length (take_while (is_processed_at txns q) log)
+-- how many of the log, from its first on, are processed there
+abbrev pub processed_of : List PlainTxn → List ℕ → ℕ → List (ℕ × PlainAttempt) → ℕ
+processed_of txns log position entries = length (take_while (is_processed_at txns position entries) log)
 
 -- what is kept of a replica beside the record is what the record tells
 pub record IsCounted (txns : List PlainTxn) (log : List ℕ) (q : PlainProgress) : Type 0 where
   pub touched : q.touched ≡ touched_of (length txns) q.attempts
-  pub processed : q.processed ≡ processed_of txns log q
+  pub processed : q.processed ≡ processed_of txns log q.position q.attempts
 
 pub record IsKept (p : PlainView) : Type 0 where
   pub opened : p.opened ≡ opened_of p.txns
-  pub counted : (r : ℕ) → IsCounted p.txns p.log (plain_replica_in p.replicas r)
+  pub counted : (r : ℕ) → r < length p.replicas → IsCounted p.txns p.log (plain_replica_in p.replicas r)
+
+-- a replica, with how much of the log is processed there counted anew
+abbrev pub recounted : List PlainTxn → List ℕ → PlainProgress → PlainProgress
+recounted txns log q = record q { processed = processed_of txns log q.position q.attempts }
 
 -- an answer, or a list of those waited for, stands at each place that is kept
 abbrev pub AreTold : List RunReply → List (ℕ × PlainAttempt) → Type 0
@@ -75,9 +80,15 @@ pub record ArePlaces (p : PlainView) : Type 0 where
   pub told : (r : ℕ) → AreTold p.replies (plain_replica_in p.replicas r).attempts
   pub given : (t : ℕ) → AreAnswers p.replies (given_places p.replies (plain_txn_in p.txns t).given)
 
--- a place in the log is free for each open transaction
-abbrev pub HasRoom : Inside → Type 0
-HasRoom v = vec_len v.log + vec_len v.opened ≤ vec_capacity v.log
+-- each statement's answer has a place among the given ones
+abbrev pub HaveGivenRoom : List TxnState → Type 0
+HaveGivenRoom [] = Unit {0}
+HaveGivenRoom (t ∷ ts) = (t.statements ≤ vec_capacity t.given) × HaveGivenRoom ts
+
+-- what a reply, and what follows from it, may add has its place already
+pub record HasRoom (v : Inside) : Type 0 where
+  pub log : vec_len v.log + vec_len v.opened ≤ vec_capacity v.log
+  pub given : HaveGivenRoom v.txns.items
 
 pub record IsWhole (v : Inside) : Type 0 where
   pub kept : IsKept (plain v)

@@ -1,6 +1,7 @@
 -- The fields of a `View` without where they lie in memory: what its proofs speak of.
-use Rattle.std.specs.Prelude.{ℕ, ◌+◌, Bool, false, Option, None, List, [], map, nat_eq, slice_get, unwrap_or}
+use Rattle.std.specs.Prelude.{ℕ, ◌+◌, Bool, true, false, ◌&&◌, ◌==◌, if◌then◌else◌, Option, None, List, [], ◌∷◌, map, nat_eq, slice_get, unwrap_or}
 use Rattle.std.specs.Map.{lookup}
+use Rattle.hr_base.specs.Counters.{shown}
 use Rattle.hr_base.specs.Lists.{numbered}
 use Rattle.hr_engine.specs.declared.reply.RunReply.{RunReply}
 use Rattle.hr_history.specs.declared.job.Job.{Job}
@@ -110,3 +111,26 @@ to_phase p t = record t { phase = p }
 -- one statement more
 abbrev pub with_statement : PlainTxn → PlainTxn
 with_statement t = record t { statements = t.statements + 1 }
+
+-- the first entry of a transaction, changed
+abbrev pub with_entry : ℕ → (PlainAttempt → PlainAttempt) → List (ℕ × PlainAttempt) → List (ℕ × PlainAttempt)
+with_entry t change [] = []
+with_entry t change (e ∷ es) = if nat_eq t e.0 then (e.0, change e.1) ∷ es else e ∷ with_entry t change es
+
+abbrev pub to_preempted : PlainAttempt → PlainAttempt
+to_preempted a = record a { preempted = true }
+
+abbrev pub to_convicted : PlainProgress → PlainProgress
+to_convicted q = record q { convicted = true }
+
+abbrev pub with_preempted : ℕ → PlainProgress → PlainProgress
+with_preempted t q = record q { attempts = with_entry t to_preempted q.attempts }
+
+-- restarted, with so many commits told
+abbrev pub with_restart : ℕ → PlainProgress → PlainProgress
+with_restart count q = record q {
+  lost = false;
+  position = if q.doubt && (count == shown (q.position + 1)) then q.position + 1 else q.position;
+  doubt = false;
+  out = None;
+}

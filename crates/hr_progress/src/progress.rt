@@ -1,10 +1,14 @@
 //! A replica, as the view keeps it.
-ghost use Rattle.std.specs.Prelude.{◌≡◌, map, replicate, IfOk};
-ghost use Rattle.hr_progress.specs.Plain.{plain_progress, idle_progress};
+ghost use Rattle.std.specs.Prelude.{◌≡◌, ◌<◌, ◌≤◌, length, map, replicate, slice_index, IfOk, IsTrue};
+ghost use Rattle.hr_history.specs.Processed as history;
+ghost use Rattle.hr_moves.specs.Changes.{map_from, change_at};
+ghost use Rattle.hr_progress.specs.Plain.{plain_txn, plain_entry, plain_progress, idle_progress, to_convicted, with_preempted, with_restart};
+ghost use Rattle.hr_progress.specs.Kept.{is_processed_at, processed_of, recounted};
 
-use crate::attempt::Attempt;
+use crate::attempt::{Attempt, answered, preempt};
+use crate::txn::{TxnState, phase_of, statements_of};
 use hr_engine::TxnId;
-use hr_history::Job;
+use hr_history::{Job, Phase};
 use indexmap::IndexMap;
 use std::alloc::{AllocError, Global};
 
@@ -44,4 +48,66 @@ pub fn idle_replicas(alloc: Global, count: u32) -> Result<Vec<Progress>, AllocEr
         })?;
     }
     Ok(replicas)
+}
+
+// Whether a transaction is committed at a replica, or has every statement answered there.
+fn is_processed(
+    attempts: &IndexMap<TxnId, Attempt>,
+    position: u64,
+    txns: &[TxnState],
+    txn: TxnId,
+) -> bool
+    ensures { result ≡ is_processed_at (map plain_txn txns.now) position (map plain_entry attempts.now.entries) txn }
+{
+    is_logged_by(phase_of(txns, txn), position)
+        || answered(attempts, txn) == statements_of(txns, txn) as usize
+}
+
+// Whether a phase is that of the log's transactions up to a place.
+fn is_logged_by(phase: Phase, place: u64) -> bool
+    ensures { result ≡ history.is_logged_by place phase }
+{
+    match phase {
+        Phase::Logged(at) => at <= place,
+        _ => false,
+    }
+}
+
+/// How many of the log, from its first on, are processed at a replica. At least so many are.
+pub fn processed_from(
+    attempts: &IndexMap<TxnId, Attempt>,
+    position: u64,
+    txns: &[TxnState],
+    log: &[TxnId],
+    least: u64,
+) -> u64
+    requires { least ≤ processed_of (map plain_txn txns.now) log.now position (map plain_entry attempts.now.entries) }
+    ensures { result ≡ processed_of (map plain_txn txns.now) log.now position (map plain_entry attempts.now.entries) }
+{
+    let mut count = least as usize;
+    'log: while count < log.len() {
+        if !is_processed(attempts, position, txns, log[count]) {
+            break;
+        }
+        count += 1;
+    }
+    count as u64
+}
+
+/// A replica is convicted.
+pub fn convict(replicas: &mut Vec<Progress>, replica: u32)
+    requires { replica < length replicas.old.items }
+    ensures { map plain_progress replicas.new.items ≡ map_from (change_at replica to_convicted) 0 (map plain_progress replicas.old.items) }
+{
+    let progress = &mut replicas[replica as usize];
+    progress.convicted = true;
+}
+
+/// A transaction is to be rolled back at a replica, and to run again there.
+pub fn preempt_at(replicas: &mut Vec<Progress>, replica: u32, txn: TxnId)
+    requires { replica < length replicas.old.items }
+    ensures { map plain_progress replicas.new.items ≡ map_from (change_at replica (with_preempted txn)) 0 (map plain_progress replicas.old.items) }
+{
+    let progress = &mut replicas[replica as usize];
+    preempt(&mut progress.attempts, txn);
 }

@@ -1,14 +1,15 @@
-ghost use Rattle.std.specs.Prelude.{◌≡◌, ◌≤◌, ◌==◌, ◌<◌, not, None, [], length, filter, map, vec_len, IfOk};
+//! All that the rules look at.
+ghost use Rattle.std.specs.Prelude.{◌≡◌, ◌≤◌, None, [], length, IfOk};
 ghost use Rattle.hr_history.specs.View.{view_of};
 ghost use Rattle.hr_moves.specs.Kept.{open_in};
-ghost use Rattle.hr_moves.specs.Sane.{IsSane};
-ghost use Rattle.hr_moves.specs.Fits.{IsOpen};
-ghost use Rattle.hr_moves.specs.Moves.{after_refuse};
+
+mod calls;
+mod follows;
 
 use crate::progress::{Progress, idle_replicas};
-use crate::txn::{TxnState, set_phase};
+use crate::txn::TxnState;
 use hr_engine::{RunReply, TxnId};
-use hr_history::{Fresh, Phase};
+use hr_history::Fresh;
 use std::alloc::{AllocError, Global};
 use std::marker::Model;
 
@@ -76,29 +77,10 @@ impl View {
         self.primary
     }
 
-    /// A transaction is refused.
-    pub fn refuse(&mut self, txn: TxnId)
-        requires sane { IsSane self.old }
-        requires open { IsOpen self.old txn }
-        ensures { self.new ≡ after_refuse self.old txn }
-    {
-        let View { txns, opened, .. } = self;
-        set_phase(txns, txn, Phase::Refused);
-        close(opened, txn);
-    }
-
     /// The open transactions, in ascending order.
     pub fn opened(&self) -> &[TxnId]
         ensures { result.now ≡ open_in self.now }
     {
         &self.opened
     }
-}
-
-// A transaction is no longer open.
-fn close(opened: &mut Vec<TxnId>, txn: TxnId)
-    ensures others { opened.new.items ≡ filter (λ t. not (t == txn)) opened.old.items }
-    ensures fewer { vec_len opened.new ≤ vec_len opened.old }
-{
-    opened.retain(|t| *t != txn);
 }

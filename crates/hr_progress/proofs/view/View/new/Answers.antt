@@ -1,7 +1,7 @@
 use Rattle.std.proofs.Common.{◌≡◌, ◌+◌, ◌≤◌, None, Some, map, sym, ◌∙◌, ap, subst, arith}
 use Rattle.hr_progress.specs.Plain.{PlainView, plain, plain_txn}
 use Rattle.hr_progress.specs.Seen.{seen_plain}
-use Rattle.hr_progress.specs.Kept.{IsKept, ArePlaces}
+use Rattle.hr_progress.specs.Kept.{IsKept, ArePlaces, HaveGivenRoom}
 use Rattle.hr_progress.proofs.Starts.{at_first, seen_first, kept_first, places_first}
 use Rattle.hr_progress.proofs.view.View.new.Goals as goal
 
@@ -15,5 +15,5 @@ pub invariant_of-result : goal.invariant_of-result
 invariant_of-result c = record {
   kept = subst IsKept (sym (made c)) (kept_first c.args.f);
   places = subst ArePlaces (sym (made c)) (places_first c.args.f);
-  room = omega (arith, c.new.ensures.len, c.new-4.ensures.len);
+  room = record { log = omega (arith, c.new.ensures.len, c.new-4.ensures.len); given = subst HaveGivenRoom (sym c.new-2.ensures.items) tt };
 }

@@ -24,5 +24,5 @@ invariant_of-self c =
     record {
       kept = subst IsKept (sym (moved c)) (kept_end p c.args.txn (to_phase phase.Refused) (opened_plain p c.args.txn opened) (closed p sane) c.self.invariant.kept refl);
       places = subst ArePlaces (sym (moved c)) (places_end p c.args.txn (to_phase phase.Refused) (λ x. refl) c.self.invariant.places);
-      room = omega (arith, c.self.invariant.room, c.close.ensures.fewer);
+      room = record { log = omega (arith, c.self.invariant.room.log, c.close.ensures.fewer); given = c.set_phase.ensures.room c.self.invariant.room.given };
     }
