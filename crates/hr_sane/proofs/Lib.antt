@@ -1,0 +1,14 @@
+pub mod Lists
+pub mod Elsewhere
+pub mod Quiet
+pub mod CallsOut
+pub mod Next
+pub mod Cuts
+pub mod Commits
+pub mod Entries
+pub mod Outs
+pub mod Primaries
+pub mod Logs
+pub mod Stays
+pub mod First
+pub mod Begun
