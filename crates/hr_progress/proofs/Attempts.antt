@@ -20,7 +20,7 @@ use Rattle.hr_progress.proofs.Changed.{changed_here, unchanged_else, got_kept}
 use Rattle.hr_progress.proofs.Numbers.{filter_same_test, take_while_agree}
 use Rattle.hr_progress.proofs.Parts.{replica_seen}
 
-keys_seen : (replies : List RunReply) (fresh : Option Fresh) (r : ℕ) (all es : List (ℕ × PlainAttempt)) → map (λ (e : ℕ × Attempt). e.0) (map (seen_entry replies fresh r all) es) ≡ map (λ (e : ℕ × PlainAttempt). e.0) es
+pub keys_seen : (replies : List RunReply) (fresh : Option Fresh) (r : ℕ) (all es : List (ℕ × PlainAttempt)) → map (λ (e : ℕ × Attempt). e.0) (map (seen_entry replies fresh r all) es) ≡ map (λ (e : ℕ × PlainAttempt). e.0) es
 keys_seen replies fresh r all [] = refl
 keys_seen replies fresh r all (e ∷ es) = ap (λ ks. e.0 ∷ ks) (keys_seen replies fresh r all es)
 

@@ -3,6 +3,11 @@ pub mod Numbers
 pub mod Replicas
 pub mod Attempts
 pub mod Preempts
+pub mod Recounts
+pub mod Ranges
+pub mod Decides
+pub mod Begins
+pub mod Restarts
 pub mod Starts
 pub mod Cuts
 pub mod Parts

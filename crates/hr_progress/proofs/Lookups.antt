@@ -1,5 +1,5 @@
 -- Look-ups in the lists of the code.
-use Rattle.std.proofs.Common.{◌≡◌, ℕ, zero, suc, ◌+◌, ◌-◌, ◌<◌, ◌≤◌, Bool, true, false, Option, Some, None, unwrap_or, List, [], ◌∷◌, map, length, slice_get, slice_set, slice_index_or, vec_capacity, cond, Result, Ok, Err, OnErr, refl, ap, sym, ◌∙◌, subst, arith}
+use Rattle.std.proofs.Common.{◌≡◌, ℕ, zero, suc, ◌+◌, ◌-◌, ◌<◌, ◌≤◌, Bool, true, false, Option, Some, None, unwrap_or, List, [], ◌∷◌, ◌++◌, map, length, slice_get, slice_set, slice_index_or, vec_capacity, cond, Result, Ok, Err, OnErr, refl, ap, sym, ◌∙◌, subst, arith}
 use Rattle.std.specs.Prelude.{take_while}
 use Rattle.std.specs.Option.{option_map}
 use Rattle.std.proofs.lemmas.List.Sums.{take_while-cons}
@@ -84,3 +84,7 @@ module _ (p : ℕ → Bool) where
   front_all (y ∷ xs) (suc n) h e =
       let r = rest_of y xs n h in
       omega (arith, passing y xs r.0, front_all xs n r.1 (omega (arith, e)))
+
+pub room_more : (xs : List TxnState) (y : TxnState) → y.statements ≤ vec_capacity y.given → HaveGivenRoom xs → HaveGivenRoom (xs ++ y ∷ [])
+room_more [] y h room = (h, tt)
+room_more (x ∷ xs) y h room = (room.0, room_more xs y h room.1)

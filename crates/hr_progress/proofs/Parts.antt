@@ -31,7 +31,7 @@ got_map h [] i = refl
 got_map h (x ∷ xs) zero = refl
 got_map h (x ∷ xs) (suc i) = got_map h xs i
 
-numbered_map : {X Y : Type 0} (h : X → Y) (xs : List X) (t : ℕ) → numbered (map h xs) t ≡ option_map h (numbered xs t)
+pub numbered_map : {X Y : Type 0} (h : X → Y) (xs : List X) (t : ℕ) → numbered (map h xs) t ≡ option_map h (numbered xs t)
 numbered_map h xs zero = refl
 numbered_map h xs (suc n) = got_map h xs n
 

@@ -37,7 +37,7 @@ closed p sane u h =
 pub opened_plain : (p : PlainView) (t : ℕ) → IsOpen (seen_plain p) t → is_open (plain_txn_in p.txns t).phase ≡ true
 opened_plain p t h = sym (phase_same p t) ∙ h
 
-some_open : (o : Option PlainTxn) → is_open (unwrap_or o no_txn).phase ≡ true → (x : PlainTxn) × (o ≡ Some x)
+pub some_open : (o : Option PlainTxn) → is_open (unwrap_or o no_txn).phase ≡ true → (x : PlainTxn) × (o ≡ Some x)
 some_open None e = absurd (clash e refl)
 some_open (Some x) e = (x, refl)
 

@@ -10,7 +10,7 @@ use Rattle.hr_progress.specs.declared.view.View.TheInside.{Inside}
 use Rattle.hr_progress.specs.declared.txn.TxnState.{TxnState}
 use Rattle.hr_progress.specs.declared.txn.Given.{Given}
 use Rattle.hr_progress.specs.declared.attempt.Told.{Told}
-use Rattle.hr_progress.specs.Plain.{PlainTxn, PlainAttempt, PlainProgress, PlainView, plain, plain_txn_in, plain_attempt_in, plain_replica_in}
+use Rattle.hr_progress.specs.Plain.{PlainTxn, PlainAttempt, PlainProgress, PlainView, plain, plain_txn_in, plain_attempt_in, plain_replica_in, with_restart}
 
 abbrev pub is_answer : Option RunReply → Bool
 is_answer (Some (run.Done answer)) = true
@@ -70,6 +70,19 @@ pub record IsKept (p : PlainView) : Type 0 where
 -- a replica, with how much of the log is processed there counted anew
 abbrev pub recounted : List PlainTxn → List ℕ → PlainProgress → PlainProgress
 recounted txns log q = record q { processed = processed_of txns log q.position q.attempts }
+
+-- restarted, with so many commits told, and counted anew
+abbrev pub restarted : List PlainTxn → List ℕ → ℕ → PlainProgress → PlainProgress
+restarted txns log count q = recounted txns log (with_restart count q)
+
+-- it has processed no less than it is said to have
+abbrev pub IsLeast : List PlainTxn → List ℕ → PlainProgress → Type 0
+IsLeast txns log q = q.processed ≤ processed_of txns log q.position q.attempts
+
+-- no replica has processed less than it is said to have
+abbrev pub NoneLess : List PlainTxn → List ℕ → List PlainProgress → Type 0
+NoneLess txns log [] = Unit {0}
+NoneLess txns log (q ∷ qs) = IsLeast txns log q × NoneLess txns log qs
 
 -- an answer, or a list of those waited for, stands at each place that is kept
 abbrev pub AreTold : List RunReply → List (ℕ × PlainAttempt) → Type 0

@@ -105,6 +105,10 @@ plain_replica_in replicas r = unwrap_or (slice_get replicas r) idle_progress
 
 -- small changes
 
+-- a transaction that a session has just begun
+abbrev pub begun : ℕ → PlainTxn
+begun session = record { session = session; statements = 0; given = []; phase = phase.Active }
+
 abbrev pub to_phase : Phase → PlainTxn → PlainTxn
 to_phase p t = record t { phase = p }
 

@@ -1,9 +1,9 @@
 //! A replica, as the view keeps it.
-ghost use Rattle.std.specs.Prelude.{◌≡◌, ◌<◌, ◌≤◌, length, map, replicate, slice_index, IfOk, IsTrue};
+ghost use Rattle.std.specs.Prelude.{◌≡◌, ◌+◌, ◌^◌, ◌<◌, ◌≤◌, length, map, replicate, slice_index, IfOk, IsTrue};
 ghost use Rattle.hr_history.specs.Processed as history;
 ghost use Rattle.hr_moves.specs.Changes.{map_from, change_at};
-ghost use Rattle.hr_progress.specs.Plain.{plain_txn, plain_entry, plain_progress, idle_progress, to_convicted, with_preempted, with_restart};
-ghost use Rattle.hr_progress.specs.Kept.{is_processed_at, processed_of, recounted};
+ghost use Rattle.hr_progress.specs.Plain.{plain_txn, plain_entry, plain_progress, plain_replica_in, idle_progress, to_convicted, with_preempted, with_restart};
+ghost use Rattle.hr_progress.specs.Kept.{is_processed_at, processed_of, recounted, restarted, IsLeast, NoneLess};
 
 use crate::attempt::{Attempt, answered, preempt};
 use crate::txn::{TxnState, phase_of, statements_of};
@@ -110,4 +110,59 @@ pub fn preempt_at(replicas: &mut Vec<Progress>, replica: u32, txn: TxnId)
 {
     let progress = &mut replicas[replica as usize];
     preempt(&mut progress.attempts, txn);
+}
+
+/// Counts anew how much of the log a replica has processed, which is no less than it is said to be.
+fn recount_one(progress: &mut Progress, txns: &[TxnState], log: &[TxnId])
+    requires { progress.old.processed ≤ processed_of (map plain_txn txns.now) log.now progress.old.position (map plain_entry progress.old.attempts.entries) }
+    ensures { plain_progress progress.new ≡ recounted (map plain_txn txns.now) log.now (plain_progress progress.old) }
+{
+    progress.processed = processed_from(
+        &progress.attempts,
+        progress.position,
+        txns,
+        log,
+        progress.processed,
+    );
+}
+
+/// Counts anew how much of the log each replica has processed.
+pub fn recount(replicas: &mut Vec<Progress>, txns: &[TxnState], log: &[TxnId])
+    requires { NoneLess (map plain_txn txns.now) log.now (map plain_progress replicas.old.items) }
+    ensures { map plain_progress replicas.new.items ≡ map (recounted (map plain_txn txns.now) log.now) (map plain_progress replicas.old.items) }
+{
+    'replicas: for place in 0..replicas.len() {
+        recount_one(&mut replicas[place], txns, log);
+    }
+}
+
+// A replica is restarted, and tells how many commits it has made.
+fn restart(progress: &mut Progress, count: u64)
+    requires { IsTrue progress.old.doubt → progress.old.position + 1 < 2 ^ 64 }
+    ensures { plain_progress progress.new ≡ with_restart count (plain_progress progress.old) }
+{
+    if progress.doubt && count == progress.position + 1 {
+        progress.position += 1;
+    }
+    progress.lost = false;
+    progress.doubt = false;
+    progress.out = None;
+}
+
+/// A replica is restarted, and tells how many commits it has made.
+pub fn restart_at(
+    replicas: &mut Vec<Progress>,
+    replica: u32,
+    count: u64,
+    txns: &[TxnState],
+    log: &[TxnId],
+)
+    requires known { replica < length replicas.old.items }
+    requires next { IsTrue (plain_replica_in (map plain_progress replicas.old.items) replica).doubt → (plain_replica_in (map plain_progress replicas.old.items) replica).position + 1 < 2 ^ 64 }
+    requires least { IsLeast (map plain_txn txns.now) log.now (with_restart count (plain_replica_in (map plain_progress replicas.old.items) replica)) }
+    ensures { map plain_progress replicas.new.items ≡ map_from (change_at replica (restarted (map plain_txn txns.now) log.now count)) 0 (map plain_progress replicas.old.items) }
+{
+    let progress = &mut replicas[replica as usize];
+    restart(progress, count);
+    recount_one(progress, txns, log);
 }

@@ -1,13 +1,14 @@
 //! A transaction, as the view keeps it.
-ghost use Rattle.std.specs.Prelude.{◌≡◌, ◌≤◌, ◌<◌, ◌==◌, not, length, filter, map, vec_len, OnOk, OnErr};
+ghost use Rattle.std.specs.Prelude.{◌≡◌, ◌≤◌, ◌<◌, ◌==◌, not, [], ◌∷◌, ◌++◌, length, filter, map, vec_len, OnOk, OnErr, IsTrue};
+ghost use Rattle.hr_base.specs.Lists.{has};
 ghost use Rattle.hr_moves.specs.Changes.{map_from, change_at};
-ghost use Rattle.hr_progress.specs.Plain.{plain_txn, plain_txn_in, to_phase, with_statement};
+ghost use Rattle.hr_progress.specs.Plain.{plain_txn, plain_txn_in, begun, to_phase, with_statement};
 ghost use Rattle.hr_progress.specs.Kept.{HaveGivenRoom};
 
 use hr_base::limits::MAX_STATEMENTS;
 use hr_engine::TxnId;
 use hr_history::Phase;
-use std::alloc::AllocError;
+use std::alloc::{AllocError, Global};
 
 /// A transaction.
 #[derive(Drop)]
@@ -54,6 +55,21 @@ pub fn statements_of(txns: &[TxnState], txn: TxnId) -> u32
     }
 }
 
+/// A session begins a transaction.
+pub fn begin(alloc: Global, txns: &mut Vec<TxnState>, session: u32) -> Result<(), AllocError>
+    ensures ok { OnOk result (map plain_txn txns.new.items ≡ map plain_txn txns.old.items ++ begun session ∷ []) }
+    ensures err { OnErr result (map plain_txn txns.new.items ≡ map plain_txn txns.old.items) }
+    ensures room { HaveGivenRoom txns.old.items → HaveGivenRoom txns.new.items }
+{
+    txns.push(TxnState {
+        session,
+        statements: 0,
+        given: Vec::new(alloc),
+        phase: Phase::Active,
+    })?;
+    Ok(())
+}
+
 /// Sets the phase of a transaction.
 pub fn set_phase(txns: &mut Vec<TxnState>, txn: TxnId, phase: Phase)
     requires first { 1 ≤ txn }
@@ -87,6 +103,7 @@ pub fn add_statement(txns: &mut Vec<TxnState>, txn: TxnId) -> Result<(), AllocEr
 pub fn close(opened: &mut Vec<TxnId>, txn: TxnId)
     ensures others { opened.new.items ≡ filter (λ t. not (t == txn)) opened.old.items }
     ensures fewer { vec_len opened.new ≤ vec_len opened.old }
+    ensures one { IsTrue (has opened.old.items txn) → vec_len opened.new < vec_len opened.old }
 {
     opened.retain(|t| *t != txn);
 }

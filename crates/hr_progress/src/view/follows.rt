@@ -4,15 +4,34 @@ ghost use Rattle.hr_history.specs.Primary as history;
 ghost use Rattle.hr_history.specs.Processed.{attempt_in};
 ghost use Rattle.hr_moves.specs.Sane.{IsSane, IsReplica};
 ghost use Rattle.hr_moves.specs.Fits.{IsOpen};
-ghost use Rattle.hr_moves.specs.Moves.{after_refuse, after_convict, after_new_primary, after_preempt};
+ghost use Rattle.hr_moves.specs.Moves.{after_decide, after_refuse, after_convict, after_new_primary, after_preempt};
 
-use crate::progress::{convict, preempt_at};
+use crate::progress::{convict, preempt_at, recount};
 use crate::txn::{close, set_phase};
 use crate::view::View;
 use hr_engine::TxnId;
 use hr_history::Phase;
 
 impl View {
+    /// A transaction is decided: it is the next of the log.
+    pub fn decide(&mut self, txn: TxnId)
+        requires sane { IsSane self.old }
+        requires open { IsOpen self.old txn }
+        ensures { self.new ≡ after_decide self.old txn }
+    {
+        let View {
+            log,
+            txns,
+            replicas,
+            opened,
+            ..
+        } = self;
+        close(opened, txn);
+        set_phase(txns, txn, Phase::Logged(log.len() as u64 + 1));
+        log.push_reserved(txn);
+        recount(replicas, txns, log);
+    }
+
     /// A transaction is refused.
     pub fn refuse(&mut self, txn: TxnId)
         requires sane { IsSane self.old }
