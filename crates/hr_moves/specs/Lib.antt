@@ -7,3 +7,4 @@ pub mod Measure
 pub mod TurnSteps
 pub mod Outcomes
 pub mod Callers
+pub mod Worked

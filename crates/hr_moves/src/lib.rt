@@ -4,5 +4,6 @@
 #![tactic(auto)]
 
 mod outcome;
+pub mod worked;
 
 pub use outcome::{Settled, Tally};

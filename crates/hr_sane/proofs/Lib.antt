@@ -12,3 +12,15 @@ pub mod Logs
 pub mod Stays
 pub mod First
 pub mod Begun
+pub mod Maps
+pub mod AttemptMoves
+pub mod ReplicaMoves
+pub mod ReplyMoves
+pub mod MoveLaws
+pub mod TurnLemmas
+pub mod Growth
+pub mod Totals
+pub mod Rooms
+pub mod MeasureLaws
+pub mod RoomLaws
+pub mod Outcomes
