@@ -8,6 +8,7 @@ pub mod Ranges
 pub mod Decides
 pub mod Begins
 pub mod Restarts
+pub mod Sanes
 pub mod Starts
 pub mod Cuts
 pub mod Parts

@@ -1,16 +1,17 @@
 -- A transaction is changed.
-use Rattle.std.proofs.Common.{◌≡◌, ◌↔◌, ℕ, zero, suc, ◌+◌, ◌≤◌, Bool, true, false, not, ◌&&◌, ◌||◌, ◌==◌, cond, Option, Some, None, unwrap_or, List, [], ◌∷◌, filter, map, length, IsTrue, refl, ap, sym, ◌∙◌, subst, arith}
+use Rattle.std.proofs.Common.{◌≡◌, ◌↔◌, ℕ, zero, suc, ◌+◌, ◌≤◌, Bool, true, false, not, ◌&&◌, ◌||◌, ◌==◌, cond, Option, Some, None, unwrap_or, List, [], ◌∷◌, filter, map, length, slice_get, IsTrue, refl, ap, sym, ◌∙◌, subst, arith}
 use Rattle.std.specs.Option.{option_map}
 use Rattle.std.proofs.lemmas.Bool.{eq-eqb, eqb-true, ne_eqb}
+use Rattle.std.proofs.lemmas.Option.{slice_get_within}
 use Rattle.hr_base.specs.Lists.{numbered, has, one_to}
 use Rattle.hr_engine.specs.declared.reply.RunReply.{RunReply}
 use Rattle.hr_history.specs.declared.phase.Phase.{Phase}
 use Rattle.hr_history.specs.declared.phase.Phase.TheVariants as phase
 use Rattle.hr_history.specs.Transactions.{is_open}
 use Rattle.hr_history.specs.View.{View, TxnState}
-use Rattle.hr_history.specs.Processed.{phase_in, is_logged_by}
+use Rattle.hr_history.specs.Processed.{phase_in, is_logged_by, unknown_txn}
 use Rattle.hr_moves.specs.Changes.{map_from, change_at, with_txn}
-use Rattle.hr_moves.specs.Sane.{IsSane}
+use Rattle.hr_moves.specs.Sane.{IsSane, IsKnown}
 use Rattle.hr_moves.specs.Fits.{IsOpen}
 use Rattle.hr_progress.specs.Plain.{PlainTxn, PlainProgress, PlainView, no_txn, plain_txn_in, plain_attempt_in, plain_replica_in}
 use Rattle.hr_progress.specs.Seen.{seen_txn, seen_plain}
@@ -134,3 +135,12 @@ module _ (p : PlainView) (t : ℕ) (g : PlainTxn → PlainTxn) where
       opened = kept.opened ∙ opened_same p.txns t g opened stays;
       counted = λ r h. counted_one p.txns t g opened p.log (plain_replica_in p.replicas r) shut (kept.counted r h);
     }
+
+-- an open transaction has been begun
+pub open_known : (v : View) (t : ℕ) → IsOpen v t → IsKnown v t
+open_known v zero h = absurd (clash h refl)
+open_known v (suc n) h = by (slice_get v.txns n) refl h
+  where
+    by : (o : Option TxnState) → slice_get v.txns n ≡ o → is_open (unwrap_or o unknown_txn).phase ≡ true → IsKnown v (suc n)
+    by None e k = absurd (clash k refl)
+    by (Some x) e k = (omega arith, omega (arith, slice_get_within v.txns n x e))

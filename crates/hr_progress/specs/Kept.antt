@@ -10,6 +10,8 @@ use Rattle.hr_progress.specs.declared.view.View.TheInside.{Inside}
 use Rattle.hr_progress.specs.declared.txn.TxnState.{TxnState}
 use Rattle.hr_progress.specs.declared.txn.Given.{Given}
 use Rattle.hr_progress.specs.declared.attempt.Told.{Told}
+use Rattle.hr_moves.specs.Sane.{IsSane}
+use Rattle.hr_progress.specs.Seen.{seen}
 use Rattle.hr_progress.specs.Plain.{PlainTxn, PlainAttempt, PlainProgress, PlainView, plain, plain_txn_in, plain_attempt_in, plain_replica_in, with_restart}
 
 abbrev pub is_answer : Option RunReply → Bool
@@ -104,6 +106,7 @@ pub record HasRoom (v : Inside) : Type 0 where
   pub given : HaveGivenRoom v.txns.items
 
 pub record IsWhole (v : Inside) : Type 0 where
+  pub sane : IsSane (seen v)
   pub kept : IsKept (plain v)
   pub places : ArePlaces (plain v)
   pub room : HasRoom v

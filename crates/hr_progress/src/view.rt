@@ -2,6 +2,7 @@
 ghost use Rattle.std.specs.Prelude.{◌≡◌, ◌≤◌, None, [], length, IfOk};
 ghost use Rattle.hr_history.specs.View.{view_of};
 ghost use Rattle.hr_moves.specs.Kept.{open_in};
+ghost use Rattle.hr_moves.specs.Sane.{IsSane};
 
 mod calls;
 mod follows;
@@ -62,6 +63,11 @@ impl View {
             opened: Vec::new(alloc),
         })
     }
+
+    /// Every view makes sense.
+    pub fn sane(&self)
+        ensures { IsSane self.now }
+    {}
 
     /// How many transactions are decided.
     pub fn commits(&self) -> u64

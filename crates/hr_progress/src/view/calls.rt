@@ -1,9 +1,12 @@
 //! What the calls of the shepherd change. The turn before is over.
-ghost use Rattle.std.specs.Prelude.{◌≡◌, ◌+◌, ◌^◌, ◌<◌, OnOk, OnErr};
-ghost use Rattle.hr_history.specs.Processed.{txn_in};
-ghost use Rattle.hr_moves.specs.Sane.{IsSane, IsReplica};
+ghost use Rattle.std.specs.Prelude.{◌≡◌, ℕ, ◌+◌, ◌^◌, ◌<◌, length, OnOk, OnErr, IsTrue};
+ghost use Rattle.hr_rel.specs.declared.stmt.Stmt.{Stmt};
+ghost use Rattle.hr_history.specs.declared.entry.Event.TheVariants as event;
+ghost use Rattle.hr_history.specs.Faithful.{is_restart};
+ghost use Rattle.hr_history.specs.Processed.{txn_in, replica_in};
+ghost use Rattle.hr_history.specs.Step.{view_step};
+ghost use Rattle.hr_moves.specs.Sane.{IsReplica};
 ghost use Rattle.hr_moves.specs.Fits.{IsOpen};
-ghost use Rattle.hr_moves.specs.Moves.{after_begin, after_submit, after_ask_commit, after_ask_rollback, after_restart};
 
 use crate::progress::restart_at;
 use crate::txn::{add_statement, begin, close, set_phase};
@@ -16,8 +19,7 @@ use std::alloc::{AllocError, Global};
 impl View {
     /// A session begins a transaction, with the next number.
     pub fn begin(&mut self, alloc: Global, session: u32) -> Result<(), AllocError>
-        requires sane { IsSane self.old }
-        ensures ok { OnOk result (self.new ≡ after_begin self.old session) }
+        ensures ok { OnOk result ((place asks : ℕ) → self.new ≡ view_step self.old place asks (event.Begin session (length self.old.txns + 1))) }
         ensures err { OnErr result (self.new ≡ self.old) }
     {
         let View {
@@ -38,10 +40,9 @@ impl View {
 
     /// A session submits the next statement of its open transaction.
     pub fn submit(&mut self, txn: TxnId) -> Result<(), AllocError>
-        requires sane { IsSane self.old }
         requires open { IsOpen self.old txn }
         requires few { (txn_in self.old txn).statements < MAX_STATEMENTS }
-        ensures ok { OnOk result (self.new ≡ after_submit self.old txn) }
+        ensures ok { OnOk result ((place asks index : ℕ) (stmt : Stmt) → self.new ≡ view_step self.old place asks (event.Submit txn index stmt)) }
         ensures err { OnErr result (self.new ≡ self.old) }
     {
         let View { txns, fresh, .. } = self;
@@ -52,10 +53,9 @@ impl View {
 
     /// A session asks for its open transaction to be committed, after so many such calls of all sessions.
     pub fn ask_commit(&mut self, txn: TxnId, asks: u64)
-        requires sane { IsSane self.old }
         requires open { IsOpen self.old txn }
         requires few { asks + 1 < 2 ^ 64 }
-        ensures { self.new ≡ after_ask_commit self.old asks txn }
+        ensures { (place : ℕ) → self.new ≡ view_step self.old place asks (event.AskCommit txn) }
     {
         let View { txns, fresh, .. } = self;
         set_phase(txns, txn, Phase::Asked(asks + 1));
@@ -64,9 +64,8 @@ impl View {
 
     /// A session has its open transaction rolled back.
     pub fn ask_rollback(&mut self, txn: TxnId)
-        requires sane { IsSane self.old }
-        requires open { IsOpen self.old txn }
-        ensures { self.new ≡ after_ask_rollback self.old txn }
+        requires { IsOpen self.old txn }
+        ensures { (place asks : ℕ) → self.new ≡ view_step self.old place asks (event.AskRollback txn) }
     {
         let View {
             txns,
@@ -81,9 +80,9 @@ impl View {
 
     /// A replica is restarted, and tells how many commits it has made.
     pub fn restarted(&mut self, replica: u32, count: u64)
-        requires sane { IsSane self.old }
         requires known { IsReplica self.old replica }
-        ensures { self.new ≡ after_restart self.old replica count }
+        requires out { IsTrue (is_restart (replica_in self.old replica).out) }
+        ensures { (place asks : ℕ) → self.new ≡ view_step self.old place asks (event.Restarted replica count) }
     {
         let View {
             log,

@@ -1,10 +1,13 @@
 //! What changes by itself, behind a call in its turn. It takes no memory.
-ghost use Rattle.std.specs.Prelude.{◌≡◌, IsTrue};
+ghost use Rattle.std.specs.Prelude.{◌≡◌, ℕ, IsTrue};
+ghost use Rattle.hr_history.specs.declared.cause.CauseAt.{CauseAt};
+ghost use Rattle.hr_history.specs.declared.evidence.Evidence.{Evidence};
+ghost use Rattle.hr_history.specs.declared.entry.Event.TheVariants as event;
 ghost use Rattle.hr_history.specs.Primary as history;
-ghost use Rattle.hr_history.specs.Processed.{attempt_in};
-ghost use Rattle.hr_moves.specs.Sane.{IsSane, IsReplica};
+ghost use Rattle.hr_history.specs.Processed.{attempt_in, live_in};
+ghost use Rattle.hr_history.specs.Step.{view_step};
+ghost use Rattle.hr_moves.specs.Sane.{IsReplica};
 ghost use Rattle.hr_moves.specs.Fits.{IsOpen};
-ghost use Rattle.hr_moves.specs.Moves.{after_decide, after_refuse, after_convict, after_new_primary, after_preempt};
 
 use crate::progress::{convict, preempt_at, recount};
 use crate::txn::{close, set_phase};
@@ -15,9 +18,8 @@ use hr_history::Phase;
 impl View {
     /// A transaction is decided: it is the next of the log.
     pub fn decide(&mut self, txn: TxnId)
-        requires sane { IsSane self.old }
-        requires open { IsOpen self.old txn }
-        ensures { self.new ≡ after_decide self.old txn }
+        requires { IsOpen self.old txn }
+        ensures { (place asks : ℕ) → self.new ≡ view_step self.old place asks (event.Decide txn) }
     {
         let View {
             log,
@@ -34,9 +36,8 @@ impl View {
 
     /// A transaction is refused.
     pub fn refuse(&mut self, txn: TxnId)
-        requires sane { IsSane self.old }
-        requires open { IsOpen self.old txn }
-        ensures { self.new ≡ after_refuse self.old txn }
+        requires { IsOpen self.old txn }
+        ensures { (place asks : ℕ) (why : CauseAt) → self.new ≡ view_step self.old place asks (event.Refuse txn why) }
     {
         let View { txns, opened, .. } = self;
         set_phase(txns, txn, Phase::Refused);
@@ -45,9 +46,8 @@ impl View {
 
     /// A replica is convicted, and isn't the primary any more.
     pub fn convict(&mut self, replica: u32)
-        requires sane { IsSane self.old }
-        requires known { IsReplica self.old replica }
-        ensures { self.new ≡ after_convict self.old replica }
+        requires { IsReplica self.old replica }
+        ensures { (place asks : ℕ) (shown : Evidence) → self.new ≡ view_step self.old place asks (event.Convict replica shown) }
     {
         let View {
             replicas,
@@ -60,7 +60,9 @@ impl View {
 
     /// A replica becomes the primary.
     pub fn new_primary(&mut self, replica: u32)
-        ensures { self.new ≡ after_new_primary self.old replica }
+        requires known { IsReplica self.old replica }
+        requires live { IsTrue (live_in self.old replica) }
+        ensures { (place asks : ℕ) → self.new ≡ view_step self.old place asks (event.NewPrimary replica) }
     {
         self.primary = Some(replica);
         self.search_after = replica;
@@ -68,9 +70,9 @@ impl View {
 
     /// A transaction is to be rolled back at a replica, and to run again there.
     pub fn preempt(&mut self, replica: u32, txn: TxnId)
-        requires sane { IsSane self.old }
         requires known { IsReplica self.old replica }
-        ensures { self.new ≡ after_preempt self.old replica txn }
+        requires touched { IsTrue (attempt_in self.old replica txn).touched }
+        ensures { (place asks : ℕ) → self.new ≡ view_step self.old place asks (event.Preempt replica txn) }
     {
         let View { replicas, .. } = self;
         preempt_at(replicas, replica, txn);
