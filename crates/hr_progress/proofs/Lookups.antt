@@ -1,10 +1,12 @@
 -- Look-ups in the lists of the code.
-use Rattle.std.proofs.Common.{◌≡◌, ℕ, zero, suc, ◌+◌, ◌-◌, ◌<◌, ◌≤◌, Bool, true, false, Option, Some, None, unwrap_or, List, [], ◌∷◌, ◌++◌, map, length, slice_get, slice_set, slice_index_or, vec_capacity, cond, Result, Ok, Err, OnErr, refl, ap, sym, ◌∙◌, subst, arith}
+use Rattle.std.proofs.Common.{◌≡◌, ℕ, zero, suc, ◌+◌, ◌-◌, ◌<◌, ◌≤◌, Bool, true, false, Option, Some, None, unwrap_or, List, [], ◌∷◌, ◌++◌, map, length, slice_get, slice_set, slice_index_or, get_or, vec_capacity, cond, Result, Ok, Err, OnErr, refl, ap, sym, ◌∙◌, subst, arith}
 use Rattle.std.specs.Prelude.{take_while}
 use Rattle.std.specs.Option.{option_map}
 use Rattle.std.proofs.lemmas.List.Sums.{take_while-cons}
+use Rattle.std.proofs.lemmas.Option.{slice_get_read, slice_get_past}
 use Rattle.hr_progress.specs.declared.txn.TxnState.{TxnState}
-use Rattle.hr_progress.specs.Plain.{PlainTxn, no_txn, plain_txn, plain_txn_in}
+use Rattle.hr_progress.specs.declared.progress.Progress.{Progress}
+use Rattle.hr_progress.specs.Plain.{PlainTxn, PlainProgress, no_txn, idle_progress, plain_txn, plain_txn_in, plain_progress, plain_replica_in}
 use Rattle.hr_progress.specs.Kept.{HaveGivenRoom}
 use Rattle.hr_progress.proofs.Parts.{got_map}
 
@@ -88,3 +90,11 @@ module _ (p : ℕ → Bool) where
 pub room_more : (xs : List TxnState) (y : TxnState) → y.statements ≤ vec_capacity y.given → HaveGivenRoom xs → HaveGivenRoom (xs ++ y ∷ [])
 room_more [] y h room = (h, tt)
 room_more (x ∷ xs) y h room = (room.0, room_more xs y h room.1)
+
+-- ---- replicas
+
+pub replica_found : (qs : List Progress) (r : ℕ) (x : Progress) → r < length qs → x ≡ get_or qs r x → plain_replica_in (map plain_progress qs) r ≡ plain_progress x
+replica_found qs r x h at = ap (λ o. unwrap_or o idle_progress) (got_map plain_progress qs r ∙ ap (option_map plain_progress) (slice_get_read qs (length qs) r x refl h at))
+
+pub replica_missing : (qs : List Progress) (r : ℕ) → length qs ≤ r → plain_replica_in (map plain_progress qs) r ≡ idle_progress
+replica_missing qs r h = ap (λ o. unwrap_or o idle_progress) (got_map plain_progress qs r ∙ ap (option_map plain_progress) (slice_get_past qs r h))

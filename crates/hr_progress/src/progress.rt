@@ -2,7 +2,7 @@
 ghost use Rattle.std.specs.Prelude.{◌≡◌, ◌+◌, ◌^◌, ◌<◌, ◌≤◌, length, map, replicate, slice_index, IfOk, IsTrue};
 ghost use Rattle.hr_history.specs.Processed as history;
 ghost use Rattle.hr_moves.specs.Changes.{map_from, change_at};
-ghost use Rattle.hr_progress.specs.Plain.{plain_txn, plain_entry, plain_progress, plain_replica_in, idle_progress, to_convicted, with_preempted, with_restart};
+ghost use Rattle.hr_progress.specs.Plain.{plain_txn, plain_entry, plain_progress, plain_attempt_in, plain_replica_in, idle_progress, to_convicted, with_preempted, with_restart};
 ghost use Rattle.hr_progress.specs.Kept.{is_processed_at, processed_of, recounted, restarted, IsLeast, NoneLess};
 
 use crate::attempt::{Attempt, answered, preempt};
@@ -63,8 +63,8 @@ fn is_processed(
         || answered(attempts, txn) == statements_of(txns, txn) as usize
 }
 
-// Whether a phase is that of the log's transactions up to a place.
-fn is_logged_by(phase: Phase, place: u64) -> bool
+/// Whether a phase is that of the log's transactions up to a place.
+pub fn is_logged_by(phase: Phase, place: u64) -> bool
     ensures { result ≡ history.is_logged_by place phase }
 {
     match phase {
@@ -165,4 +165,84 @@ pub fn restart_at(
     let progress = &mut replicas[replica as usize];
     restart(progress, count);
     recount_one(progress, txns, log);
+}
+
+/// How many transactions a replica has committed; of a number that none has, as of one to which nothing has happened.
+pub fn position_of(replicas: &[Progress], replica: u32) -> u64
+    ensures { result ≡ (plain_replica_in (map plain_progress replicas.now) replica).position }
+{
+    match replicas.get(replica as usize) {
+        Some(progress) => progress.position,
+        None => 0,
+    }
+}
+
+/// How many of the log are processed at a replica; of a number that none has, as of one to which nothing has happened.
+pub fn processed_of(replicas: &[Progress], replica: u32) -> u64
+    ensures { result ≡ (plain_replica_in (map plain_progress replicas.now) replica).processed }
+{
+    match replicas.get(replica as usize) {
+        Some(progress) => progress.processed,
+        None => 0,
+    }
+}
+
+/// Whether a replica is lost; of a number that none has, as of one to which nothing has happened.
+pub fn lost_of(replicas: &[Progress], replica: u32) -> bool
+    ensures { result ≡ (plain_replica_in (map plain_progress replicas.now) replica).lost }
+{
+    match replicas.get(replica as usize) {
+        Some(progress) => progress.lost,
+        None => false,
+    }
+}
+
+/// Whether a replica is convicted; of a number that none has, as of one to which nothing has happened.
+pub fn convicted_of(replicas: &[Progress], replica: u32) -> bool
+    ensures { result ≡ (plain_replica_in (map plain_progress replicas.now) replica).convicted }
+{
+    match replicas.get(replica as usize) {
+        Some(progress) => progress.convicted,
+        None => false,
+    }
+}
+
+/// Whether a replica's last commit is in doubt; of a number that none has, as of one to which nothing has happened.
+pub fn doubt_of(replicas: &[Progress], replica: u32) -> bool
+    ensures { result ≡ (plain_replica_in (map plain_progress replicas.now) replica).doubt }
+{
+    match replicas.get(replica as usize) {
+        Some(progress) => progress.doubt,
+        None => false,
+    }
+}
+
+/// The job that is out at a replica; of a number that none has, as of one to which nothing has happened.
+pub fn out_of(replicas: &[Progress], replica: u32) -> Option<Job>
+    ensures { result ≡ (plain_replica_in (map plain_progress replicas.now) replica).out }
+{
+    match replicas.get(replica as usize) {
+        Some(progress) => progress.out,
+        None => None,
+    }
+}
+
+/// Those that have something to roll back at a replica, in ascending order.
+pub fn touched_of(replicas: &[Progress], replica: u32) -> &[TxnId]
+    ensures { result.now ≡ (plain_replica_in (map plain_progress replicas.now) replica).touched }
+{
+    match replicas.get(replica as usize) {
+        Some(progress) => &progress.touched,
+        None => &[],
+    }
+}
+
+/// How many statements of a transaction are answered in its attempt at a replica.
+pub fn answered_at(replicas: &[Progress], replica: u32, txn: TxnId) -> usize
+    ensures { result ≡ length (plain_attempt_in (plain_replica_in (map plain_progress replicas.now) replica).attempts txn).answers }
+{
+    match replicas.get(replica as usize) {
+        Some(progress) => answered(&progress.attempts, txn),
+        None => 0,
+    }
 }

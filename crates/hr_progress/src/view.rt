@@ -1,11 +1,11 @@
 //! All that the rules look at.
 ghost use Rattle.std.specs.Prelude.{◌≡◌, ◌≤◌, None, [], length, IfOk};
 ghost use Rattle.hr_history.specs.View.{view_of};
-ghost use Rattle.hr_moves.specs.Kept.{open_in};
 ghost use Rattle.hr_moves.specs.Sane.{IsSane};
 
 mod calls;
 mod follows;
+mod reads;
 
 use crate::progress::{Progress, idle_replicas};
 use crate::txn::TxnState;
@@ -67,7 +67,9 @@ impl View {
     /// Every view makes sense.
     pub fn sane(&self)
         ensures { IsSane self.now }
-    {}
+    {
+        let _f = self.f;
+    }
 
     /// How many transactions are decided.
     pub fn commits(&self) -> u64
@@ -81,12 +83,5 @@ impl View {
         ensures { result ≡ self.now.primary }
     {
         self.primary
-    }
-
-    /// The open transactions, in ascending order.
-    pub fn opened(&self) -> &[TxnId]
-        ensures { result.now ≡ open_in self.now }
-    {
-        &self.opened
     }
 }
