@@ -1,2 +1,4 @@
+pub mod Plain
 pub mod Seen
+pub mod Kept
 pub mod View

@@ -1,11 +1,16 @@
-ghost use Rattle.std.specs.Prelude.{◌≡◌, ◌≤◌, None, [], length, map, IfOk};
-ghost use Rattle.std.specs.List.{range_with_len};
-ghost use Rattle.hr_history.specs.View.{view_of, progress_in};
-ghost use Rattle.hr_progress.specs.Seen.{seen_replicas};
+//! All that the rules look at.
+ghost use Rattle.std.specs.Prelude.{◌≡◌, ◌≤◌, None, [], length, IfOk};
+ghost use Rattle.hr_history.specs.View.{view_of};
+ghost use Rattle.hr_moves.specs.Sane.{IsSane};
 
+mod calls;
+mod follows;
+mod reads;
+
+use crate::progress::{Progress, idle_replicas};
+use crate::txn::TxnState;
 use hr_engine::{RunReply, TxnId};
-use hr_history::{Fresh, Job, Last, Phase};
-use indexmap::IndexMap;
+use hr_history::Fresh;
 use std::alloc::{AllocError, Global};
 use std::marker::Model;
 
@@ -22,6 +27,8 @@ pub struct View {
     /// The replies to all runs, in order.
     replies: Vec<RunReply>,
     fresh: Option<Fresh>,
+    /// The open transactions, in ascending order.
+    opened: Vec<TxnId>,
 }
 
 impl Model for View {
@@ -32,60 +39,10 @@ impl Model for View {
     ghost use Rattle.hr_progress.specs.Seen.{seen};
 
     ghost view = { seen };
-}
 
-/// A transaction.
-#[derive(Drop)]
-pub struct TxnState {
-    pub session: u32,
-    /// How many were submitted.
-    pub statements: u32,
-    pub given: Vec<Given>,
-    pub phase: Phase,
-}
+    ghost use Rattle.hr_progress.specs.Kept.{IsWhole};
 
-/// An answer that was given to the session.
-#[derive(Clone, Copy, Debug, PartialEq, Eq)]
-pub struct Given {
-    /// The place of the answer among the replies.
-    pub reply: usize,
-    /// The length of the log when it was given.
-    pub stamp: u64,
-}
-
-/// A replica.
-#[derive(Drop)]
-pub struct Progress {
-    pub lost: bool,
-    pub convicted: bool,
-    /// How many transactions it has committed.
-    pub position: u64,
-    /// Its last commit was answered Lost, and no restart followed.
-    pub doubt: bool,
-    pub out: Option<Job>,
-    /// The transactions that it was given statements of, in the order of the first.
-    pub attempts: IndexMap<TxnId, Attempt>,
-}
-
-/// A transaction at a replica.
-#[derive(Drop)]
-pub struct Attempt {
-    pub answers: Vec<Told>,
-    /// What the last reply tells of waits, without those that are waited for no more.
-    pub last: Last,
-    /// There is something to roll back.
-    pub touched: bool,
-    /// It is to be rolled back here, and to run again.
-    pub preempted: bool,
-}
-
-/// An answer of an attempt.
-#[derive(Clone, Copy, Debug, PartialEq, Eq)]
-pub struct Told {
-    /// The place of the answer among the replies.
-    pub reply: usize,
-    /// The place in the history of the Give that told it.
-    pub at: u64,
+    ghost invariant = { IsWhole };
 }
 
 impl View {
@@ -103,7 +60,15 @@ impl View {
             search_after: 0,
             replies: Vec::new(alloc),
             fresh: None,
+            opened: Vec::new(alloc),
         })
+    }
+
+    /// Every view makes sense.
+    pub fn sane(&self)
+        ensures { IsSane self.now }
+    {
+        let _f = self.f;
     }
 
     /// How many transactions are decided.
@@ -118,37 +83,5 @@ impl View {
         ensures { result ≡ self.now.primary }
     {
         self.primary
-    }
-}
-
-// So many replicas to which nothing has happened.
-fn idle_replicas(alloc: Global, count: u32) -> Result<Vec<Progress>, AllocError>
-    ensures { IfOk result (λ replicas. seen_replicas [] None 0 replicas.items ≡ map (progress_in []) (range_with_len 0 count)) }
-{
-    let mut replicas = Vec::new(alloc);
-    for _ in 0..count {
-        replicas.push(Progress {
-            lost: false,
-            convicted: false,
-            position: 0,
-            doubt: false,
-            out: None,
-            attempts: IndexMap::new(alloc),
-        })?;
-    }
-    Ok(replicas)
-}
-
-#[cfg(test)]
-mod tests {
-    use super::View;
-    use std::test::Fail;
-
-    #[test]
-    fn a_new_view(rt: HostRuntime) -> Result<(), Fail> {
-        let view = View::new(rt.alloc(), 1)?;
-        assert_eq!(rt; view.commits(), 0);
-        assert_eq!(rt; view.primary(), Some(0));
-        Ok(())
     }
 }

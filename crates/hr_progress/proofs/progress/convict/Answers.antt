@@ -1,0 +1,7 @@
+use Rattle.std.proofs.Common.{refl, arith}
+use Rattle.hr_progress.specs.Plain.{plain_progress, to_convicted}
+use Rattle.hr_progress.proofs.Changed.{set_changed}
+use Rattle.hr_progress.proofs.progress.convict.Goals as goal
+
+pub returns : goal.returns
+returns c = set_changed plain_progress to_convicted c.args.replicas.now.items c.args.replica 0 c.args.replica c.index_mut-progress.result.now _ (omega arith) c.requires c.index_mut-progress.ensures.value refl

@@ -1,0 +1,41 @@
+use Rattle.std.proofs.Common.{◌≡◌, ◌+◌, ◌≤◌, None, sym, ◌∙◌, ap, subst, refl, arith}
+use Rattle.hr_history.specs.declared.phase.Phase.{Phase}
+use Rattle.hr_history.specs.declared.phase.Phase.TheVariants as phase
+use Rattle.hr_history.specs.View.{View, TxnState}
+use Rattle.hr_moves.specs.Changes.{with_phase}
+use Rattle.hr_moves.specs.Sane.{IsSane}
+use Rattle.hr_moves.specs.Fits.{IsOpen}
+use Rattle.hr_moves.specs.Moves.{after_ask_rollback}
+use Rattle.hr_history.specs.declared.entry.Event.TheVariants as event
+use Rattle.hr_sane.proofs.MoveLaws.{moves}
+use Rattle.hr_progress.proofs.Sanes.{sane_after}
+use Rattle.hr_progress.specs.Plain.{PlainView, plain, to_phase}
+use Rattle.hr_progress.specs.Seen.{seen, seen_plain}
+use Rattle.hr_progress.specs.Kept.{IsKept, ArePlaces}
+use Rattle.hr_progress.proofs.Rests.{rest, seen_rest}
+use Rattle.hr_progress.proofs.Txns.{with_end, seen_end, kept_end, places_end, closed, opened_plain}
+use Rattle.hr_progress.proofs.view.View.ask_rollback.Goals as goal
+
+moved : (c : goal.After-close) → plain record c.self.inside { txns = c.set_phase.new.txns; fresh = None; opened = c.close.new.opened } ≡ with_end record (plain c.self.inside) { fresh = None } c.args.txn (to_phase phase.RolledBack)
+moved c = λ i. record (plain c.self.inside) { txns = c.set_phase.ensures.phase i; fresh = None; opened = c.close.ensures.others i }
+
+after : (c : goal.After-close) → seen (record c.self.inside { txns = c.set_phase.new.txns; fresh = None; opened = c.close.new.opened }) ≡ after_ask_rollback c.args.self.now c.args.txn
+after c =
+    let p = plain c.self.inside in
+    ap seen_plain (moved c) ∙ seen_end record p { fresh = None } c.args.txn (to_phase phase.RolledBack) (λ (x : TxnState). record x { phase = phase.RolledBack }) (λ x. refl)
+    ∙ ap (with_phase c.args.txn phase.RolledBack) (seen_rest p c.self.invariant.places) ∙ ap (λ v. after_ask_rollback v c.args.txn) c.self.view_is
+
+pub returns : goal.returns
+returns c = λ place asks. after c ∙ sym (moves c.args.self.now place asks (subst IsSane c.self.view_is c.self.invariant.sane) (event.AskRollback c.args.txn) c.requires)
+
+pub invariant_of-self : goal.invariant_of-self
+invariant_of-self c =
+    let p : PlainView = record (plain c.self.inside) { fresh = None } in
+    let opened = opened_plain (plain c.self.inside) c.args.txn (subst (λ (v : View). IsOpen v c.args.txn) (sym c.self.view_is) c.requires) in
+    let shut = closed (plain c.self.inside) c.self.invariant.sane in
+    record {
+      sane = subst IsSane (sym (after c)) (sane_after c.args.self.now 0 0 (event.AskRollback c.args.txn) (subst IsSane c.self.view_is c.self.invariant.sane) c.requires);
+      kept = subst IsKept (sym (moved c)) (kept_end p c.args.txn (to_phase phase.RolledBack) opened shut record { opened = c.self.invariant.kept.opened; counted = c.self.invariant.kept.counted } refl);
+      places = subst ArePlaces (sym (moved c)) (places_end p c.args.txn (to_phase phase.RolledBack) (λ x. refl) record { told = c.self.invariant.places.told; given = c.self.invariant.places.given });
+      room = record { log = omega (arith, c.self.invariant.room.log, c.close.ensures.fewer); given = c.set_phase.ensures.room c.self.invariant.room.given };
+    }

@@ -1,0 +1,13 @@
+use Rattle.std.proofs.Common.{List, map, sym, ap, ◌∙◌}
+use Rattle.hr_history.specs.View.{View, Progress}
+use Rattle.hr_history.specs.Processed.{replica_in}
+use Rattle.hr_progress.specs.declared.progress.Progress as code
+use Rattle.hr_progress.specs.Plain.{plain, plain_progress, plain_replica_in}
+use Rattle.hr_progress.proofs.Parts.{replica_seen}
+use Rattle.hr_progress.proofs.view.View.is_in_doubt.Goals as goal
+
+pub returns : goal.returns
+returns c =
+    let r = c.args.replica in
+    c.doubt_of.ensures ∙ ap (λ (qs : List code.Progress). (plain_replica_in (map plain_progress qs) r).doubt) c.deref.ensures.value
+    ∙ sym (ap (λ (x : Progress). x.doubt) (replica_seen (plain c.self.inside) r)) ∙ ap (λ v. (replica_in v r).doubt) c.self.view_is

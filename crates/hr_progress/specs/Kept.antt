@@ -1,0 +1,112 @@
+-- What holds of the fields of every `View`.
+use Rattle.std.specs.Prelude.{◌≡◌, ℕ, ◌+◌, ◌<◌, ◌≤◌, Bool, true, false, ◌||◌, ◌==◌, Option, Some, List, [], ◌∷◌, filter, length, slice_get, take_while, IsTrue}
+use Rattle.std.specs.Prelude.{vec_len, vec_capacity}
+use Rattle.hr_base.specs.Lists.{is_empty, one_to}
+use Rattle.hr_engine.specs.declared.reply.RunReply.{RunReply}
+use Rattle.hr_engine.specs.declared.reply.RunReply.TheVariants as run
+use Rattle.hr_history.specs.Transactions.{is_open}
+use Rattle.hr_history.specs.Processed.{is_logged_by}
+use Rattle.hr_progress.specs.declared.view.View.TheInside.{Inside}
+use Rattle.hr_progress.specs.declared.txn.TxnState.{TxnState}
+use Rattle.hr_progress.specs.declared.txn.Given.{Given}
+use Rattle.hr_progress.specs.declared.attempt.Told.{Told}
+use Rattle.hr_moves.specs.Sane.{IsSane}
+use Rattle.hr_progress.specs.Seen.{seen}
+use Rattle.hr_progress.specs.Plain.{PlainTxn, PlainAttempt, PlainProgress, PlainView, plain, plain_txn_in, plain_attempt_in, plain_replica_in, with_restart}
+
+abbrev pub is_answer : Option RunReply → Bool
+is_answer (Some (run.Done answer)) = true
+is_answer _ = false
+
+abbrev pub is_wait : Option RunReply → Bool
+is_wait (Some (run.Blocked named)) = true
+is_wait (Some (run.Deadlock cycle)) = true
+is_wait _ = false
+
+module _ (replies : List RunReply) where
+  -- an answer stands at each of these places among the replies
+  abbrev pub AreAnswers : List ℕ → Type 0
+  AreAnswers [] = Unit {0}
+  AreAnswers (place ∷ places) = IsTrue (is_answer (slice_get replies place)) × AreAnswers places
+
+  abbrev pub told_places : List Told → List ℕ
+  told_places [] = []
+  told_places (t ∷ ts) = t.reply ∷ told_places ts
+
+  abbrev pub given_places : List Given → List ℕ
+  given_places [] = []
+  given_places (g ∷ gs) = g.reply ∷ given_places gs
+
+  -- where an attempt's answers stand, and where it began, an answer stands; where its last reply does, one that tells of waits
+  pub record IsTold (a : PlainAttempt) : Type 0 where
+    pub answers : AreAnswers (told_places a.answers)
+    pub began : is_empty a.answers ≡ false → IsTrue (is_answer (slice_get replies a.began))
+    pub last : (place : ℕ) → a.last ≡ Some place → IsTrue (is_wait (slice_get replies place))
+
+-- the open transactions
+abbrev pub opened_of : List PlainTxn → List ℕ
+opened_of txns = filter (λ t. is_open (plain_txn_in txns t).phase) (one_to (length txns))
+
+-- of so many transactions those that have something to roll back at a replica
+abbrev pub touched_of : ℕ → List (ℕ × PlainAttempt) → List ℕ
+touched_of n entries = filter (λ t. (plain_attempt_in entries t).touched) (one_to n)
+
+-- committed at a replica that has so many commits and these entries, or whole there
+abbrev pub is_processed_at : List PlainTxn → ℕ → List (ℕ × PlainAttempt) → ℕ → Bool
+is_processed_at txns position entries t =
+    is_logged_by position (plain_txn_in txns t).phase || (length (plain_attempt_in entries t).answers == (plain_txn_in txns t).statements)
+
+-- how many of the log, from its first on, are processed there
+abbrev pub processed_of : List PlainTxn → List ℕ → ℕ → List (ℕ × PlainAttempt) → ℕ
+processed_of txns log position entries = length (take_while (is_processed_at txns position entries) log)
+
+-- what is kept of a replica beside the record is what the record tells
+pub record IsCounted (txns : List PlainTxn) (log : List ℕ) (q : PlainProgress) : Type 0 where
+  pub touched : q.touched ≡ touched_of (length txns) q.attempts
+  pub processed : q.processed ≡ processed_of txns log q.position q.attempts
+
+pub record IsKept (p : PlainView) : Type 0 where
+  pub opened : p.opened ≡ opened_of p.txns
+  pub counted : (r : ℕ) → r < length p.replicas → IsCounted p.txns p.log (plain_replica_in p.replicas r)
+
+-- a replica, with how much of the log is processed there counted anew
+abbrev pub recounted : List PlainTxn → List ℕ → PlainProgress → PlainProgress
+recounted txns log q = record q { processed = processed_of txns log q.position q.attempts }
+
+-- restarted, with so many commits told, and counted anew
+abbrev pub restarted : List PlainTxn → List ℕ → ℕ → PlainProgress → PlainProgress
+restarted txns log count q = recounted txns log (with_restart count q)
+
+-- it has processed no less than it is said to have
+abbrev pub IsLeast : List PlainTxn → List ℕ → PlainProgress → Type 0
+IsLeast txns log q = q.processed ≤ processed_of txns log q.position q.attempts
+
+-- no replica has processed less than it is said to have
+abbrev pub NoneLess : List PlainTxn → List ℕ → List PlainProgress → Type 0
+NoneLess txns log [] = Unit {0}
+NoneLess txns log (q ∷ qs) = IsLeast txns log q × NoneLess txns log qs
+
+-- an answer, or a list of those waited for, stands at each place that is kept
+abbrev pub AreTold : List RunReply → List (ℕ × PlainAttempt) → Type 0
+AreTold replies [] = Unit {0}
+AreTold replies (e ∷ es) = IsTold replies e.1 × AreTold replies es
+
+pub record ArePlaces (p : PlainView) : Type 0 where
+  pub told : (r : ℕ) → AreTold p.replies (plain_replica_in p.replicas r).attempts
+  pub given : (t : ℕ) → AreAnswers p.replies (given_places p.replies (plain_txn_in p.txns t).given)
+
+-- each statement's answer has a place among the given ones
+abbrev pub HaveGivenRoom : List TxnState → Type 0
+HaveGivenRoom [] = Unit {0}
+HaveGivenRoom (t ∷ ts) = (t.statements ≤ vec_capacity t.given) × HaveGivenRoom ts
+
+-- what a reply, and what follows from it, may add has its place already
+pub record HasRoom (v : Inside) : Type 0 where
+  pub log : vec_len v.log + vec_len v.opened ≤ vec_capacity v.log
+  pub given : HaveGivenRoom v.txns.items
+
+pub record IsWhole (v : Inside) : Type 0 where
+  pub sane : IsSane (seen v)
+  pub kept : IsKept (plain v)
+  pub places : ArePlaces (plain v)
+  pub room : HasRoom v

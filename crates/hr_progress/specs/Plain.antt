@@ -1,0 +1,140 @@
+-- The fields of a `View` without where they lie in memory: what its proofs speak of.
+use Rattle.std.specs.Prelude.{ℕ, ◌+◌, Bool, true, false, ◌&&◌, ◌==◌, if◌then◌else◌, Option, None, List, [], ◌∷◌, map, nat_eq, slice_get, unwrap_or}
+use Rattle.std.specs.Map.{lookup}
+use Rattle.hr_base.specs.Counters.{shown}
+use Rattle.hr_base.specs.Lists.{numbered}
+use Rattle.hr_engine.specs.declared.reply.RunReply.{RunReply}
+use Rattle.hr_history.specs.declared.job.Job.{Job}
+use Rattle.hr_history.specs.declared.phase.Phase.{Phase}
+use Rattle.hr_history.specs.declared.phase.Phase.TheVariants as phase
+use Rattle.hr_history.specs.declared.phase.Fresh.{Fresh}
+use Rattle.hr_progress.specs.declared.view.View.TheInside.{Inside}
+use Rattle.hr_progress.specs.declared.txn.TxnState.{TxnState}
+use Rattle.hr_progress.specs.declared.txn.Given.{Given}
+use Rattle.hr_progress.specs.declared.progress.Progress.{Progress}
+use Rattle.hr_progress.specs.declared.attempt.Attempt.{Attempt}
+use Rattle.hr_progress.specs.declared.attempt.Told.{Told}
+
+pub record PlainTxn : Type 0 where
+  pub session : ℕ
+  pub statements : ℕ
+  pub given : List Given
+  pub phase : Phase
+
+pub record PlainAttempt : Type 0 where
+  pub answers : List Told
+  pub began : ℕ
+  pub last : Option ℕ
+  pub touched : Bool
+  pub preempted : Bool
+
+pub record PlainProgress : Type 0 where
+  pub lost : Bool
+  pub convicted : Bool
+  pub position : ℕ
+  pub doubt : Bool
+  pub out : Option Job
+  pub attempts : List (ℕ × PlainAttempt)
+  pub touched : List ℕ
+  pub processed : ℕ
+
+pub record PlainView : Type 0 where
+  pub f : ℕ
+  pub log : List ℕ
+  pub txns : List PlainTxn
+  pub replicas : List PlainProgress
+  pub primary : Option ℕ
+  pub search_after : ℕ
+  pub replies : List RunReply
+  pub fresh : Option Fresh
+  pub opened : List ℕ
+
+abbrev pub plain_txn : TxnState → PlainTxn
+plain_txn t = record { session = t.session; statements = t.statements; given = t.given.items; phase = t.phase }
+
+abbrev pub plain_attempt : Attempt → PlainAttempt
+plain_attempt a = record { answers = a.answers.items; began = a.began; last = a.last; touched = a.touched; preempted = a.preempted }
+
+abbrev pub plain_entry : ℕ × Attempt → ℕ × PlainAttempt
+plain_entry p = (p.0, plain_attempt p.1)
+
+abbrev pub plain_progress : Progress → PlainProgress
+plain_progress p = record {
+  lost = p.lost;
+  convicted = p.convicted;
+  position = p.position;
+  doubt = p.doubt;
+  out = p.out;
+  attempts = map plain_entry p.attempts.entries;
+  touched = p.touched.items;
+  processed = p.processed;
+}
+
+abbrev pub plain : Inside → PlainView
+plain v = record {
+  f = v.f;
+  log = v.log.items;
+  txns = map plain_txn v.txns.items;
+  replicas = map plain_progress v.replicas.items;
+  primary = v.primary;
+  search_after = v.search_after;
+  replies = v.replies.items;
+  fresh = v.fresh;
+  opened = v.opened.items;
+}
+
+-- what a number stands for that no transaction, no replica or no entry has
+
+abbrev pub no_txn : PlainTxn
+no_txn = record { session = 0; statements = 0; given = []; phase = phase.Refused }
+
+abbrev pub idle_attempt : PlainAttempt
+idle_attempt = record { answers = []; began = 0; last = None; touched = false; preempted = false }
+
+abbrev pub idle_progress : PlainProgress
+idle_progress = record { lost = false; convicted = false; position = 0; doubt = false; out = None; attempts = []; touched = []; processed = 0 }
+
+abbrev pub plain_txn_in : List PlainTxn → ℕ → PlainTxn
+plain_txn_in txns t = unwrap_or (numbered txns t) no_txn
+
+abbrev pub plain_attempt_in : List (ℕ × PlainAttempt) → ℕ → PlainAttempt
+plain_attempt_in entries t = unwrap_or (lookup (nat_eq t) entries) idle_attempt
+
+abbrev pub plain_replica_in : List PlainProgress → ℕ → PlainProgress
+plain_replica_in replicas r = unwrap_or (slice_get replicas r) idle_progress
+
+-- small changes
+
+-- a transaction that a session has just begun
+abbrev pub begun : ℕ → PlainTxn
+begun session = record { session = session; statements = 0; given = []; phase = phase.Active }
+
+abbrev pub to_phase : Phase → PlainTxn → PlainTxn
+to_phase p t = record t { phase = p }
+
+-- one statement more
+abbrev pub with_statement : PlainTxn → PlainTxn
+with_statement t = record t { statements = t.statements + 1 }
+
+-- the first entry of a transaction, changed
+abbrev pub with_entry : ℕ → (PlainAttempt → PlainAttempt) → List (ℕ × PlainAttempt) → List (ℕ × PlainAttempt)
+with_entry t change [] = []
+with_entry t change (e ∷ es) = if nat_eq t e.0 then (e.0, change e.1) ∷ es else e ∷ with_entry t change es
+
+abbrev pub to_preempted : PlainAttempt → PlainAttempt
+to_preempted a = record a { preempted = true }
+
+abbrev pub to_convicted : PlainProgress → PlainProgress
+to_convicted q = record q { convicted = true }
+
+abbrev pub with_preempted : ℕ → PlainProgress → PlainProgress
+with_preempted t q = record q { attempts = with_entry t to_preempted q.attempts }
+
+-- restarted, with so many commits told
+abbrev pub with_restart : ℕ → PlainProgress → PlainProgress
+with_restart count q = record q {
+  lost = false;
+  position = if q.doubt && (count == shown (q.position + 1)) then q.position + 1 else q.position;
+  doubt = false;
+  out = None;
+}

@@ -1,0 +1,248 @@
+//! A replica, as the view keeps it.
+ghost use Rattle.std.specs.Prelude.{◌≡◌, ◌+◌, ◌^◌, ◌<◌, ◌≤◌, length, map, replicate, slice_index, IfOk, IsTrue};
+ghost use Rattle.hr_history.specs.Processed as history;
+ghost use Rattle.hr_moves.specs.Changes.{map_from, change_at};
+ghost use Rattle.hr_progress.specs.Plain.{plain_txn, plain_entry, plain_progress, plain_attempt_in, plain_replica_in, idle_progress, to_convicted, with_preempted, with_restart};
+ghost use Rattle.hr_progress.specs.Kept.{is_processed_at, processed_of, recounted, restarted, IsLeast, NoneLess};
+
+use crate::attempt::{Attempt, answered, preempt};
+use crate::txn::{TxnState, phase_of, statements_of};
+use hr_engine::TxnId;
+use hr_history::{Job, Phase};
+use indexmap::IndexMap;
+use std::alloc::{AllocError, Global};
+
+/// A replica.
+#[derive(Drop)]
+pub struct Progress {
+    pub lost: bool,
+    pub convicted: bool,
+    /// How many transactions it has committed.
+    pub position: u64,
+    /// Its last commit was answered Lost, and no restart followed.
+    pub doubt: bool,
+    pub out: Option<Job>,
+    /// The transactions that it was given statements of, in the order of the first.
+    pub attempts: IndexMap<TxnId, Attempt>,
+    /// Those that have something to roll back here, in ascending order.
+    pub touched: Vec<TxnId>,
+    /// How many of the log, from its first on, are committed here, or have every statement answered here.
+    pub processed: u64,
+}
+
+/// So many replicas to which nothing has happened.
+pub fn idle_replicas(alloc: Global, count: u32) -> Result<Vec<Progress>, AllocError>
+    ensures { IfOk result (λ replicas. map plain_progress replicas.items ≡ replicate count idle_progress) }
+{
+    let mut replicas = Vec::new(alloc);
+    'replicas: for _ in 0..count {
+        replicas.push(Progress {
+            lost: false,
+            convicted: false,
+            position: 0,
+            doubt: false,
+            out: None,
+            attempts: IndexMap::new(alloc),
+            touched: Vec::new(alloc),
+            processed: 0,
+        })?;
+    }
+    Ok(replicas)
+}
+
+// Whether a transaction is committed at a replica, or has every statement answered there.
+fn is_processed(
+    attempts: &IndexMap<TxnId, Attempt>,
+    position: u64,
+    txns: &[TxnState],
+    txn: TxnId,
+) -> bool
+    ensures { result ≡ is_processed_at (map plain_txn txns.now) position (map plain_entry attempts.now.entries) txn }
+{
+    is_logged_by(phase_of(txns, txn), position)
+        || answered(attempts, txn) == statements_of(txns, txn) as usize
+}
+
+/// Whether a phase is that of the log's transactions up to a place.
+pub fn is_logged_by(phase: Phase, place: u64) -> bool
+    ensures { result ≡ history.is_logged_by place phase }
+{
+    match phase {
+        Phase::Logged(at) => at <= place,
+        _ => false,
+    }
+}
+
+/// How many of the log, from its first on, are processed at a replica. At least so many are.
+pub fn processed_from(
+    attempts: &IndexMap<TxnId, Attempt>,
+    position: u64,
+    txns: &[TxnState],
+    log: &[TxnId],
+    least: u64,
+) -> u64
+    requires { least ≤ processed_of (map plain_txn txns.now) log.now position (map plain_entry attempts.now.entries) }
+    ensures { result ≡ processed_of (map plain_txn txns.now) log.now position (map plain_entry attempts.now.entries) }
+{
+    let mut count = least as usize;
+    'log: while count < log.len() {
+        if !is_processed(attempts, position, txns, log[count]) {
+            break;
+        }
+        count += 1;
+    }
+    count as u64
+}
+
+/// A replica is convicted.
+pub fn convict(replicas: &mut Vec<Progress>, replica: u32)
+    requires { replica < length replicas.old.items }
+    ensures { map plain_progress replicas.new.items ≡ map_from (change_at replica to_convicted) 0 (map plain_progress replicas.old.items) }
+{
+    let progress = &mut replicas[replica as usize];
+    progress.convicted = true;
+}
+
+/// A transaction is to be rolled back at a replica, and to run again there.
+pub fn preempt_at(replicas: &mut Vec<Progress>, replica: u32, txn: TxnId)
+    requires { replica < length replicas.old.items }
+    ensures { map plain_progress replicas.new.items ≡ map_from (change_at replica (with_preempted txn)) 0 (map plain_progress replicas.old.items) }
+{
+    let progress = &mut replicas[replica as usize];
+    preempt(&mut progress.attempts, txn);
+}
+
+/// Counts anew how much of the log a replica has processed, which is no less than it is said to be.
+fn recount_one(progress: &mut Progress, txns: &[TxnState], log: &[TxnId])
+    requires { progress.old.processed ≤ processed_of (map plain_txn txns.now) log.now progress.old.position (map plain_entry progress.old.attempts.entries) }
+    ensures { plain_progress progress.new ≡ recounted (map plain_txn txns.now) log.now (plain_progress progress.old) }
+{
+    progress.processed = processed_from(
+        &progress.attempts,
+        progress.position,
+        txns,
+        log,
+        progress.processed,
+    );
+}
+
+/// Counts anew how much of the log each replica has processed.
+pub fn recount(replicas: &mut Vec<Progress>, txns: &[TxnState], log: &[TxnId])
+    requires { NoneLess (map plain_txn txns.now) log.now (map plain_progress replicas.old.items) }
+    ensures { map plain_progress replicas.new.items ≡ map (recounted (map plain_txn txns.now) log.now) (map plain_progress replicas.old.items) }
+{
+    'replicas: for place in 0..replicas.len() {
+        recount_one(&mut replicas[place], txns, log);
+    }
+}
+
+// A replica is restarted, and tells how many commits it has made.
+fn restart(progress: &mut Progress, count: u64)
+    requires { IsTrue progress.old.doubt → progress.old.position + 1 < 2 ^ 64 }
+    ensures { plain_progress progress.new ≡ with_restart count (plain_progress progress.old) }
+{
+    if progress.doubt && count == progress.position + 1 {
+        progress.position += 1;
+    }
+    progress.lost = false;
+    progress.doubt = false;
+    progress.out = None;
+}
+
+/// A replica is restarted, and tells how many commits it has made.
+pub fn restart_at(
+    replicas: &mut Vec<Progress>,
+    replica: u32,
+    count: u64,
+    txns: &[TxnState],
+    log: &[TxnId],
+)
+    requires known { replica < length replicas.old.items }
+    requires next { IsTrue (plain_replica_in (map plain_progress replicas.old.items) replica).doubt → (plain_replica_in (map plain_progress replicas.old.items) replica).position + 1 < 2 ^ 64 }
+    requires least { IsLeast (map plain_txn txns.now) log.now (with_restart count (plain_replica_in (map plain_progress replicas.old.items) replica)) }
+    ensures { map plain_progress replicas.new.items ≡ map_from (change_at replica (restarted (map plain_txn txns.now) log.now count)) 0 (map plain_progress replicas.old.items) }
+{
+    let progress = &mut replicas[replica as usize];
+    restart(progress, count);
+    recount_one(progress, txns, log);
+}
+
+/// How many transactions a replica has committed; of a number that none has, as of one to which nothing has happened.
+pub fn position_of(replicas: &[Progress], replica: u32) -> u64
+    ensures { result ≡ (plain_replica_in (map plain_progress replicas.now) replica).position }
+{
+    match replicas.get(replica as usize) {
+        Some(progress) => progress.position,
+        None => 0,
+    }
+}
+
+/// How many of the log are processed at a replica; of a number that none has, as of one to which nothing has happened.
+pub fn processed_of(replicas: &[Progress], replica: u32) -> u64
+    ensures { result ≡ (plain_replica_in (map plain_progress replicas.now) replica).processed }
+{
+    match replicas.get(replica as usize) {
+        Some(progress) => progress.processed,
+        None => 0,
+    }
+}
+
+/// Whether a replica is lost; of a number that none has, as of one to which nothing has happened.
+pub fn lost_of(replicas: &[Progress], replica: u32) -> bool
+    ensures { result ≡ (plain_replica_in (map plain_progress replicas.now) replica).lost }
+{
+    match replicas.get(replica as usize) {
+        Some(progress) => progress.lost,
+        None => false,
+    }
+}
+
+/// Whether a replica is convicted; of a number that none has, as of one to which nothing has happened.
+pub fn convicted_of(replicas: &[Progress], replica: u32) -> bool
+    ensures { result ≡ (plain_replica_in (map plain_progress replicas.now) replica).convicted }
+{
+    match replicas.get(replica as usize) {
+        Some(progress) => progress.convicted,
+        None => false,
+    }
+}
+
+/// Whether a replica's last commit is in doubt; of a number that none has, as of one to which nothing has happened.
+pub fn doubt_of(replicas: &[Progress], replica: u32) -> bool
+    ensures { result ≡ (plain_replica_in (map plain_progress replicas.now) replica).doubt }
+{
+    match replicas.get(replica as usize) {
+        Some(progress) => progress.doubt,
+        None => false,
+    }
+}
+
+/// The job that is out at a replica; of a number that none has, as of one to which nothing has happened.
+pub fn out_of(replicas: &[Progress], replica: u32) -> Option<Job>
+    ensures { result ≡ (plain_replica_in (map plain_progress replicas.now) replica).out }
+{
+    match replicas.get(replica as usize) {
+        Some(progress) => progress.out,
+        None => None,
+    }
+}
+
+/// Those that have something to roll back at a replica, in ascending order.
+pub fn touched_of(replicas: &[Progress], replica: u32) -> &[TxnId]
+    ensures { result.now ≡ (plain_replica_in (map plain_progress replicas.now) replica).touched }
+{
+    match replicas.get(replica as usize) {
+        Some(progress) => &progress.touched,
+        None => &[],
+    }
+}
+
+/// How many statements of a transaction are answered in its attempt at a replica.
+pub fn answered_at(replicas: &[Progress], replica: u32, txn: TxnId) -> usize
+    ensures { result ≡ length (plain_attempt_in (plain_replica_in (map plain_progress replicas.now) replica).attempts txn).answers }
+{
+    match replicas.get(replica as usize) {
+        Some(progress) => answered(&progress.attempts, txn),
+        None => 0,
+    }
+}

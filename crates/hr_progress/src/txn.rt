@@ -1,0 +1,109 @@
+//! A transaction, as the view keeps it.
+ghost use Rattle.std.specs.Prelude.{◌≡◌, ◌≤◌, ◌<◌, ◌==◌, not, [], ◌∷◌, ◌++◌, length, filter, map, vec_len, OnOk, OnErr, IsTrue};
+ghost use Rattle.hr_base.specs.Lists.{has};
+ghost use Rattle.hr_moves.specs.Changes.{map_from, change_at};
+ghost use Rattle.hr_progress.specs.Plain.{plain_txn, plain_txn_in, begun, to_phase, with_statement};
+ghost use Rattle.hr_progress.specs.Kept.{HaveGivenRoom};
+
+use hr_base::limits::MAX_STATEMENTS;
+use hr_engine::TxnId;
+use hr_history::Phase;
+use std::alloc::{AllocError, Global};
+
+/// A transaction.
+#[derive(Drop)]
+pub struct TxnState {
+    pub session: u32,
+    /// How many were submitted.
+    pub statements: u32,
+    pub given: Vec<Given>,
+    pub phase: Phase,
+}
+
+/// An answer that was given to the session.
+#[derive(Clone, Copy, Debug, PartialEq, Eq)]
+pub struct Given {
+    /// The place of the answer among the replies.
+    pub reply: usize,
+    /// The length of the log when it was given.
+    pub stamp: u64,
+}
+
+/// Where a transaction stands; a number that none has counts as that of a refused one.
+pub fn phase_of(txns: &[TxnState], txn: TxnId) -> Phase
+    ensures { result ≡ (plain_txn_in (map plain_txn txns.now) txn).phase }
+{
+    if txn == 0 {
+        return Phase::Refused;
+    }
+    match txns.get((txn - 1) as usize) {
+        Some(state) => state.phase,
+        None => Phase::Refused,
+    }
+}
+
+/// How many statements a transaction has; a number that none has counts as that of one without.
+pub fn statements_of(txns: &[TxnState], txn: TxnId) -> u32
+    ensures { result ≡ (plain_txn_in (map plain_txn txns.now) txn).statements }
+{
+    if txn == 0 {
+        return 0;
+    }
+    match txns.get((txn - 1) as usize) {
+        Some(state) => state.statements,
+        None => 0,
+    }
+}
+
+/// A session begins a transaction.
+pub fn begin(alloc: Global, txns: &mut Vec<TxnState>, session: u32) -> Result<(), AllocError>
+    ensures ok { OnOk result (map plain_txn txns.new.items ≡ map plain_txn txns.old.items ++ begun session ∷ []) }
+    ensures err { OnErr result (map plain_txn txns.new.items ≡ map plain_txn txns.old.items) }
+    ensures room { HaveGivenRoom txns.old.items → HaveGivenRoom txns.new.items }
+{
+    txns.push(TxnState {
+        session,
+        statements: 0,
+        given: Vec::new(alloc),
+        phase: Phase::Active,
+    })?;
+    Ok(())
+}
+
+/// Sets the phase of a transaction.
+pub fn set_phase(txns: &mut Vec<TxnState>, txn: TxnId, phase: Phase)
+    requires first { 1 ≤ txn }
+    requires last { txn ≤ length txns.old.items }
+    ensures phase { map plain_txn txns.new.items ≡ map_from (change_at txn (to_phase phase)) 1 (map plain_txn txns.old.items) }
+    ensures room { HaveGivenRoom txns.old.items → HaveGivenRoom txns.new.items }
+{
+    let place = (txn - 1) as usize;
+    let state = &mut txns[place];
+    state.phase = phase;
+}
+
+/// Counts one statement more, and keeps a place for its answer.
+pub fn add_statement(txns: &mut Vec<TxnState>, txn: TxnId) -> Result<(), AllocError>
+    requires first { 1 ≤ txn }
+    requires last { txn ≤ length txns.old.items }
+    requires few { (plain_txn_in (map plain_txn txns.old.items) txn).statements < MAX_STATEMENTS }
+    ensures ok { OnOk result (map plain_txn txns.new.items ≡ map_from (change_at txn with_statement) 1 (map plain_txn txns.old.items)) }
+    ensures err { OnErr result (map plain_txn txns.new.items ≡ map plain_txn txns.old.items) }
+    ensures room { HaveGivenRoom txns.old.items → HaveGivenRoom txns.new.items }
+{
+    let place = (txn - 1) as usize;
+    let state = &mut txns[place];
+    let statements = state.statements + 1;
+    state.given.reserve(statements as usize)?;
+    state.statements = statements;
+    Ok(())
+}
+
+/// A transaction is no longer open.
+pub fn close(opened: &mut Vec<TxnId>, txn: TxnId)
+    ensures others { opened.new.items ≡ filter (λ t. not (t == txn)) opened.old.items }
+    ensures fewer { vec_len opened.new ≤ vec_len opened.old }
+    ensures one { IsTrue (has opened.old.items txn) → vec_len opened.new < vec_len opened.old }
+{
+    opened.retain(|t| *t != txn);
+}

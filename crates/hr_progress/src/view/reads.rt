@@ -1,0 +1,163 @@
+//! What a view tells, as its record does.
+ghost use Rattle.std.specs.Prelude.{◌≡◌, length};
+ghost use Rattle.hr_history.specs.Processed as history;
+ghost use Rattle.hr_history.specs.Processed.{txn_in, phase_in, replica_in, answers_in, runs_in, processed_in};
+ghost use Rattle.hr_history.specs.Ranks.{is_before, rank_by, ranks_before};
+ghost use Rattle.hr_moves.specs.Kept.{open_in, touched_in};
+ghost use Rattle.hr_moves.specs.Sane.{IsReplica};
+
+use crate::progress::{
+    answered_at, convicted_of, doubt_of, is_logged_by, lost_of, out_of, position_of, processed_of,
+    touched_of,
+};
+use crate::txn::{phase_of, statements_of};
+use crate::view::View;
+use hr_engine::TxnId;
+use hr_history::{Job, Phase};
+
+impl View {
+    /// The decided transactions, in the order of their decisions.
+    pub fn log(&self) -> &[TxnId]
+        ensures { result.now ≡ self.now.log }
+    {
+        &self.log
+    }
+
+    /// The open transactions, in ascending order.
+    pub fn opened(&self) -> &[TxnId]
+        ensures { result.now ≡ open_in self.now }
+    {
+        &self.opened
+    }
+
+    /// The transactions that have something to roll back at a replica, in ascending order.
+    pub fn touched(&self, replica: u32) -> &[TxnId]
+        requires { IsReplica self.now replica }
+        ensures { result.now ≡ touched_in self.now replica }
+    {
+        touched_of(&self.replicas, replica)
+    }
+
+    /// How many of the log, from its first on, are processed at a replica: committed, or whole.
+    pub fn processed(&self, replica: u32) -> u64
+        requires { IsReplica self.now replica }
+        ensures { result ≡ processed_in self.now replica }
+    {
+        processed_of(&self.replicas, replica)
+    }
+
+    /// How many transactions a replica has committed.
+    pub fn position(&self, replica: u32) -> u64
+        ensures { result ≡ (replica_in self.now replica).position }
+    {
+        position_of(&self.replicas, replica)
+    }
+
+    /// Whether a replica is lost.
+    pub fn is_lost(&self, replica: u32) -> bool
+        ensures { result ≡ (replica_in self.now replica).lost }
+    {
+        lost_of(&self.replicas, replica)
+    }
+
+    /// Whether a replica is convicted.
+    pub fn is_convicted(&self, replica: u32) -> bool
+        ensures { result ≡ (replica_in self.now replica).convicted }
+    {
+        convicted_of(&self.replicas, replica)
+    }
+
+    /// Whether a replica's last commit is in doubt.
+    pub fn is_in_doubt(&self, replica: u32) -> bool
+        ensures { result ≡ (replica_in self.now replica).doubt }
+    {
+        doubt_of(&self.replicas, replica)
+    }
+
+    /// The job that is out at a replica.
+    pub fn out(&self, replica: u32) -> Option<Job>
+        ensures { result ≡ (replica_in self.now replica).out }
+    {
+        out_of(&self.replicas, replica)
+    }
+
+    /// Where a transaction stands.
+    pub fn phase(&self, txn: TxnId) -> Phase
+        ensures { result ≡ phase_in self.now txn }
+    {
+        phase_of(&self.txns, txn)
+    }
+
+    /// How many statements of a transaction were submitted.
+    pub fn statements(&self, txn: TxnId) -> u32
+        ensures { result ≡ (txn_in self.now txn).statements }
+    {
+        statements_of(&self.txns, txn)
+    }
+
+    /// How many statements of a transaction are answered in its attempt at a replica.
+    pub fn answered(&self, replica: u32, txn: TxnId) -> usize
+        ensures { result ≡ length (answers_in self.now replica txn) }
+    {
+        answered_at(&self.replicas, replica, txn)
+    }
+
+    /// Whether a transaction runs at a replica: its attempt there has a statement.
+    pub fn runs(&self, replica: u32, txn: TxnId) -> bool
+        ensures { result ≡ runs_in self.now replica txn }
+    {
+        self.answered(replica, txn) > 0
+    }
+
+    /// Whether every statement of a transaction is answered in its attempt at a replica.
+    pub fn is_whole(&self, replica: u32, txn: TxnId) -> bool
+        ensures { result ≡ history.is_whole self.now replica txn }
+    {
+        self.answered(replica, txn) == self.statements(txn) as usize
+    }
+
+    /// Whether a transaction is committed at a replica.
+    pub fn is_committed(&self, replica: u32, txn: TxnId) -> bool
+        ensures { result ≡ history.is_committed self.now replica txn }
+    {
+        is_logged_by(self.phase(txn), self.position(replica))
+    }
+
+    /// Whether a transaction ranks before another: logged ones by their place, then asked ones in the order of asking,
+    /// then the other open ones by number, and ended ones last.
+    pub fn rank_before(&self, a: TxnId, b: TxnId) -> bool
+        ensures { result ≡ ranks_before self.now a b }
+    {
+        is_before(self.phase(a), a, self.phase(b), b)
+    }
+}
+
+// Whether one of two transactions in these phases ranks before the other.
+fn is_before(phase: Phase, txn: TxnId, other_phase: Phase, other: TxnId) -> bool
+    ensures { result ≡ is_before (rank_by phase txn) (rank_by other_phase other) }
+{
+    let (kind, other_kind) = (kind_of(phase), kind_of(other_phase));
+    kind < other_kind
+        || (kind == other_kind && number_of(phase, txn) < number_of(other_phase, other))
+}
+
+fn kind_of(phase: Phase) -> u32
+    ensures { result ≡ (rank_by phase 0).kind }
+{
+    match phase {
+        Phase::Logged(_) => 0,
+        Phase::Asked(_) => 1,
+        Phase::Active => 2,
+        Phase::RolledBack | Phase::Refused => 3,
+    }
+}
+
+fn number_of(phase: Phase, txn: TxnId) -> u64
+    ensures { result ≡ (rank_by phase txn).number }
+{
+    match phase {
+        Phase::Logged(place) => place,
+        Phase::Asked(number) => number,
+        _ => txn,
+    }
+}
