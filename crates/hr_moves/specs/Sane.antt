@@ -51,7 +51,7 @@ pub record IsSane (v : View) : Type 0 where
   -- a replica's commits begin the log; only where it is lost is one in doubt, and that is the next
   pub position : (r : ℕ) → (replica_in v r).position ≤ length v.log
   pub doubt : (r : ℕ) → IsTrue (replica_in v r).doubt → IsTrue (replica_in v r).lost × ((replica_in v r).position < length v.log)
-  -- the entries of a replica are of transactions, of each once, and no more than statements
+  -- the entries of a replica are of transactions, of each once, and no more than statements may be submitted
   pub known : (r t : ℕ) → HasEntry v r t → IsKnown v t
   pub apart : (r : ℕ) → IsTrue (is_distinct (entries_in v r))
   pub few : (r : ℕ) → length (replica_in v r).attempts ≤ MAX_SUBMITS

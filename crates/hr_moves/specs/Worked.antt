@@ -1,12 +1,12 @@
 -- The view of the worked moves. This module only serves src/worked.rt.
-use Rattle.std.specs.Prelude.{ℕ, true, false, Option, Some, None, List, [], ◌∷◌}
+use Rattle.std.specs.Prelude.{ℕ, true, false, Option, Some, None, [], ◌∷◌}
 use Rattle.hr_rel.specs.declared.answer.Answer.TheVariants.{Count}
 use Rattle.hr_history.specs.declared.job.Job.{Job}
 use Rattle.hr_history.specs.declared.job.Job.TheVariants as job
 use Rattle.hr_history.specs.declared.phase.Phase.TheVariants as phase
 use Rattle.hr_history.specs.declared.phase.Last.{Last}
 use Rattle.hr_history.specs.declared.phase.Last.TheVariants as last
-use Rattle.hr_history.specs.View.{View, Attempt, Progress}
+use Rattle.hr_history.specs.View.{View, Attempt}
 use Rattle.hr_history.specs.Processed.{no_attempt}
 
 -- an attempt with this one answer, told at this place

@@ -1,19 +1,17 @@
 -- What each event makes of one attempt in a sane view.
-use Rattle.std.proofs.Common.{◌≡◌, ◌⊎◌, inl, inr, ℕ, zero, suc, ◌+◌, Bool, true, false, not, ◌&&◌, ◌||◌, ◌==◌, cond, if◌then◌else◌, Option, Some, None, option_and_then, List, [], ◌∷◌, ◌++◌, filter, refl, ap, sym, ◌∙◌, IsTrue}
+use Rattle.std.proofs.Common.{◌≡◌, ℕ, Bool, true, false, not, ◌&&◌, ◌||◌, ◌==◌, cond, if◌then◌else◌, Option, Some, None, option_and_then, List, [], ◌∷◌, ◌++◌, filter, refl, ap, sym, ◌∙◌, IsTrue}
 use Rattle.std.specs.List.{list_all}
-use Rattle.std.proofs.lemmas.Bool.{and_parts, and_from, eqb-true, eq-eqb, or_left}
+use Rattle.std.proofs.lemmas.Bool.{and_parts, and_from, eq-eqb, or_left}
 use Rattle.hr_rel.specs.declared.answer.Answer.{Answer}
 use Rattle.hr_base.specs.Lists.{is_empty, once}
-use Rattle.hr_base.proofs.Tests.{eq_turn, filter_again}
-use Rattle.hr_engine.specs.Journal.{Call, Ran, Committed, RolledBack, Restarted}
-use Rattle.hr_engine.specs.Effects.{effect_of}
+use Rattle.hr_base.proofs.Tests.{eq_turn}
+use Rattle.hr_engine.specs.Journal.{Call, Ran, Committed}
 use Rattle.hr_engine.specs.Waits.{if_all}
 use Rattle.hr_engine.specs.declared.reply.RunReply.TheVariants as run
 use Rattle.hr_engine.specs.declared.reply.EndReply.{EndReply}
 use Rattle.hr_engine.specs.declared.reply.EndReply.TheVariants as end
 use Rattle.hr_history.specs.declared.entry.Event.{Event}
 use Rattle.hr_history.specs.declared.entry.Event.TheVariants as event
-use Rattle.hr_history.specs.declared.job.JobReply.{JobReply}
 use Rattle.hr_history.specs.declared.job.JobReply.TheVariants as reply
 use Rattle.hr_history.specs.declared.phase.Last.{Last}
 use Rattle.hr_history.specs.declared.phase.Last.TheVariants as last
@@ -22,13 +20,12 @@ use Rattle.hr_history.specs.Replicas.{any_stmt}
 use Rattle.hr_history.specs.Attempts.{next_places, next_preempted, still_told}
 use Rattle.hr_history.specs.View.{View, Attempt, is_fresh}
 use Rattle.hr_history.specs.Processed.{attempt_in, runs_in, no_attempt, named_in, cycle_in}
-use Rattle.hr_history.specs.Step.{answers_after, touched_after, last_if, last_after, fresh_after, wait_left, standing_left, runs_after, attempt_after}
-use Rattle.hr_history.proofs.WaitLaws.{if_all_again}
+use Rattle.hr_history.specs.Step.{answers_after, touched_after, last_if, last_after, fresh_after, wait_left, standing_left, runs_after}
 use Rattle.hr_moves.specs.Changes.{change_at}
 use Rattle.hr_moves.specs.Sane.{IsSane, cut_to}
 use Rattle.hr_moves.specs.Moves.{with_answer, with_waits, ended_among, rest_attempt}
-use Rattle.hr_sane.proofs.Lists.{on_true, on_false}
-use Rattle.hr_sane.proofs.Cuts.{Apart, apart_cut, apart_last, named_still, cycle_still, once_cut, wait_is, cycle_is, left_is_cut}
+use Rattle.hr_sane.proofs.Lists.{on_true}
+use Rattle.hr_sane.proofs.Cuts.{apart_cut, apart_last, named_still, cycle_still, once_cut, wait_is, cycle_is, left_is_cut}
 
 -- ---- who passes a test passes a wider one
 

@@ -1,9 +1,9 @@
 -- In a history that has begun rightly each entry fits the view before it, so all its views are sane.
-use Rattle.std.proofs.Common.{◌≡◌, ◌⊎◌, inl, inr, ℕ, zero, suc, ◌+◌, ◌*◌, ◌<◌, ◌≤◌, Bool, true, false, not, ◌&&◌, ◌||◌, ◌==◌, nat_lt, cond, if◌then◌else◌, Option, Some, None, List, [], ◌∷◌, ◌++◌, length, map, refl, ap, sym, ◌∙◌, subst, arith, length-append, IsTrue}
-use Rattle.std.proofs.lemmas.Bool.{and_parts, and_from, or_cases, or_left, or_right, eqb-true, eq-eqb, ne_eqb, ltb-true}
+use Rattle.std.proofs.Common.{◌≡◌, ◌⊎◌, inl, inr, ℕ, suc, ◌+◌, ◌*◌, ◌<◌, ◌≤◌, Bool, true, false, not, ◌&&◌, ◌||◌, ◌==◌, nat_lt, if◌then◌else◌, List, [], ◌∷◌, ◌++◌, length, map, refl, ap, sym, ◌∙◌, subst, arith, IsTrue}
+use Rattle.std.proofs.lemmas.Bool.{and_parts, or_cases, or_left, or_right, eqb-true, eq-eqb, ltb-true}
 use Rattle.hr_base.specs.Lists.{has, is_distinct, is_empty}
 use Rattle.hr_base.specs.declared.limits.TheConstants.{MAX_SUBMITS, MAX_STATEMENTS}
-use Rattle.hr_base.proofs.Tests.{has_end, or_false, eq_turn}
+use Rattle.hr_base.proofs.Tests.{has_end}
 use Rattle.hr_rel.specs.declared.stmt.Stmt.{Stmt}
 use Rattle.hr_history.specs.declared.entry.Entry.{Entry}
 use Rattle.hr_history.specs.declared.entry.Event.{Event}
@@ -12,25 +12,21 @@ use Rattle.hr_history.specs.declared.job.Job.{Job}
 use Rattle.hr_history.specs.declared.job.Job.TheVariants as job
 use Rattle.hr_history.specs.declared.evidence.Evidence.{Evidence}
 use Rattle.hr_history.specs.History.{History, is_call}
-use Rattle.hr_history.specs.Transactions.{begun, asks, submits, next_submits, submitted, next_submitted, phase_of, is_open, is_asked}
-use Rattle.hr_history.specs.Replicas.{out_at}
+use Rattle.hr_history.specs.Transactions.{begun, asks, submits, next_submits, submitted, next_submitted, is_open, is_asked}
 use Rattle.hr_history.specs.Attempts.{dispatched, next_dispatched, and_dispatched}
-use Rattle.hr_history.specs.Turn.{Turn, turn_of}
+use Rattle.hr_history.specs.Turn.{turn_of}
 use Rattle.hr_history.specs.View.{View, Attempt, Progress, view_of, attempt_state}
 use Rattle.hr_history.specs.Replicas.{journal_of}
-use Rattle.hr_history.specs.Processed.{txn_in, phase_in, replica_in, attempt_in, runs_in}
-use Rattle.hr_history.specs.Votes.{is_decidable}
-use Rattle.hr_history.specs.Jobs.{job_in, txn_numbers}
-use Rattle.hr_history.specs.Preemption.{stays, is_to_give_way}
-use Rattle.hr_history.specs.Faithful.{is_begun, is_allowed, may_go_on_with, is_replica, is_job, fits_job, is_restart, Begun}
-use Rattle.hr_history.specs.Step.{out_in, view_step}
+use Rattle.hr_history.specs.Processed.{phase_in, attempt_in, runs_in}
+use Rattle.hr_history.specs.Jobs.{job_in}
+use Rattle.hr_history.specs.Preemption.{stays}
+use Rattle.hr_history.specs.Faithful.{is_allowed, may_go_on_with, is_replica, is_job, fits_job, is_restart, Begun}
 use Rattle.hr_history.proofs.StepLemmas.{replica_lookup, call_allowed}
 use Rattle.hr_history.proofs.TxnSteps.{out_same}
 use Rattle.hr_history.proofs.ViewSteps.{view_same}
 use Rattle.hr_records.specs.ByRule.{HasEvidence, Follows}
 use Rattle.hr_records.proofs.SameEvents.{job_is}
 use Rattle.hr_records.proofs.RuleLemmas.{asked_is_open, begun_before, by_rule}
-use Rattle.hr_records.proofs.JobLemmas.{job_rule}
 use Rattle.hr_records.proofs.Places.{numbered_born}
 use Rattle.hr_records.proofs.ViewWords.{how_many, phase_seen, statements_seen, txn_born}
 use Rattle.hr_records.proofs.Allowed.{GoesOn, may_go_on, begin_allowed, submit_allowed, take_allowed, give_allowed, restart_allowed}
@@ -38,7 +34,7 @@ use Rattle.hr_records.specs.Numbers.{IsBorn}
 use Rattle.hr_moves.specs.Kept.{entries_in}
 use Rattle.hr_moves.specs.Sane.{IsSane, IsReplica, IsKnown}
 use Rattle.hr_moves.specs.Fits.{Fits, HasRoom}
-use Rattle.hr_sane.proofs.Lists.{on_true, on_false, keys_of_made, distinct_more}
+use Rattle.hr_sane.proofs.Lists.{keys_of_made, distinct_more}
 use Rattle.hr_sane.proofs.Next.{true_false}
 use Rattle.hr_sane.proofs.Entries.{distinct_if}
 use Rattle.hr_sane.proofs.Outs.{by_run}

@@ -1,5 +1,5 @@
 -- The call that an event tells is that of the job that is out.
-use Rattle.std.proofs.Common.{◌≡◌, ℕ, Bool, true, false, ◌||◌, ◌==◌, if◌then◌else◌, Option, Some, None, refl, ap, sym, ◌∙◌, subst}
+use Rattle.std.proofs.Common.{◌≡◌, ℕ, Bool, true, false, ◌==◌, if◌then◌else◌, Option, Some, None, refl, ap, subst}
 use Rattle.hr_rel.specs.declared.stmt.Stmt.{Stmt}
 use Rattle.hr_engine.specs.Journal.{Call, Ran, Committed, RolledBack, Restarted}
 use Rattle.hr_history.specs.declared.entry.Event.{Event}

@@ -1,5 +1,5 @@
 -- What the reply to a job makes of a replica's commits, and of what is touched there.
-use Rattle.std.proofs.Common.{◌≡◌, ℕ, ◌+◌, ◌<◌, ◌≤◌, Bool, true, false, ◌&&◌, ◌==◌, if◌then◌else◌, Some, Ok, Err, length, slice_get, refl, ap, sym, ◌∙◌, arith, IsTrue}
+use Rattle.std.proofs.Common.{◌≡◌, ℕ, ◌+◌, ◌<◌, ◌≤◌, Bool, true, false, ◌&&◌, ◌==◌, if◌then◌else◌, Ok, Err, length, refl, sym, ◌∙◌, arith, IsTrue}
 use Rattle.std.proofs.lemmas.Bool.{and_parts}
 use Rattle.hr_base.specs.Counters.{shown}
 use Rattle.hr_engine.specs.Journal.{Call, Ran, Committed, RolledBack, Restarted}
@@ -10,7 +10,6 @@ use Rattle.hr_history.specs.declared.job.Job.{Job}
 use Rattle.hr_history.specs.declared.job.Job.TheVariants as job
 use Rattle.hr_history.specs.Attempts.{next_touched}
 use Rattle.hr_history.specs.View.{View}
-use Rattle.hr_history.specs.Processed.{replica_in}
 use Rattle.hr_history.specs.Step.{Commits, next_commits, commits_in}
 use Rattle.hr_records.proofs.Places.{got_within}
 use Rattle.hr_moves.specs.Sane.{MayBeOut}

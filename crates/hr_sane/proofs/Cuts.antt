@@ -1,6 +1,5 @@
 -- A last reply that is cut to those that still run stays so, whatever call comes.
 use Rattle.std.proofs.Common.{◌≡◌, ℕ, Bool, true, false, ◌==◌, if◌then◌else◌, Option, Some, None, List, [], ◌∷◌, filter, option_and_then, refl, ap, sym, ◌∙◌}
-use Rattle.std.specs.List.{list_all}
 use Rattle.hr_base.specs.Lists.{once}
 use Rattle.hr_base.proofs.Tests.{filter_again, once_filter, once_again}
 use Rattle.hr_engine.specs.Effects.{Effect}

@@ -1,6 +1,6 @@
 -- Who has an entry at a replica, after an event.
-use Rattle.std.proofs.Common.{◌≡◌, ◌⊎◌, inl, inr, ℕ, zero, suc, ◌+◌, ◌*◌, ◌<◌, ◌≤◌, Bool, true, false, not, ◌&&◌, ◌||◌, ◌==◌, if◌then◌else◌, Option, Some, None, List, [], ◌∷◌, ◌++◌, length, map, refl, ap, sym, ◌∙◌, subst, arith, length-append, IsTrue}
-use Rattle.std.proofs.lemmas.Bool.{eqb-true, eq-eqb, or_cases, or_left, or_right}
+use Rattle.std.proofs.Common.{◌≡◌, ◌⊎◌, inl, inr, ℕ, ◌≤◌, Bool, true, false, ◌==◌, if◌then◌else◌, Option, Some, None, List, [], ◌∷◌, ◌++◌, length, map, refl, ap, sym, ◌∙◌, subst, arith, length-append, IsTrue}
+use Rattle.std.proofs.lemmas.Bool.{eqb-true, or_cases}
 use Rattle.std.proofs.lemmas.List.{length-map}
 use Rattle.std.proofs.lemmas.List.FromFn.{length-map-range_with_len}
 use Rattle.hr_base.specs.Lists.{has, is_distinct}
@@ -10,23 +10,21 @@ use Rattle.hr_history.specs.declared.entry.Event.{Event}
 use Rattle.hr_history.specs.declared.entry.Event.TheVariants as event
 use Rattle.hr_history.specs.declared.job.Job.{Job}
 use Rattle.hr_history.specs.declared.job.Job.TheVariants as job
-use Rattle.hr_history.specs.declared.job.JobReply.{JobReply}
 use Rattle.hr_history.specs.declared.job.JobReply.TheVariants as reply
 use Rattle.hr_history.specs.declared.phase.Fresh.{Fresh}
 use Rattle.hr_history.specs.Attempts.{next_dispatched, and_dispatched}
-use Rattle.hr_history.specs.Turn.{fresh_from, fresh_by}
-use Rattle.hr_history.specs.View.{View, Attempt, Progress}
+use Rattle.hr_history.specs.Turn.{fresh_from}
+use Rattle.hr_history.specs.View.{View, Attempt}
 use Rattle.hr_history.specs.Processed.{replica_in}
-use Rattle.hr_history.specs.Jobs.{txn_numbers, job_in}
-use Rattle.hr_history.specs.Step.{out_in, fresh_after, txn_after, begun_by, attempt_after, view_step}
-use Rattle.hr_records.specs.ByRule.{IsByRule}
-use Rattle.hr_records.proofs.Options.{some_none, same_some}
+use Rattle.hr_history.specs.Jobs.{txn_numbers}
+use Rattle.hr_history.specs.Step.{out_in, fresh_after, txn_after, begun_by, view_step}
+use Rattle.hr_records.proofs.Options.{same_some}
 use Rattle.hr_records.proofs.JobLemmas.{job_rule}
 use Rattle.hr_moves.specs.Kept.{entries_in}
 use Rattle.hr_moves.specs.Sane.{IsSane, IsReplica, IsKnown, HasEntry}
 use Rattle.hr_moves.specs.Fits.{Fits}
 use Rattle.hr_sane.proofs.Lists.{distinct_more}
-use Rattle.hr_sane.proofs.Next.{true_false, none_before, entries_at, replica_at}
+use Rattle.hr_sane.proofs.Next.{true_false, none_before, entries_at}
 
 -- who had one has it
 pub keep_entry : (r t : ℕ) (e : Event) (ts : List ℕ) → has ts t ≡ true → has (next_dispatched r e ts) t ≡ true

@@ -1,11 +1,10 @@
 -- Before anything happened the view is sane.
-use Rattle.std.proofs.Common.{◌≡◌, ◌⊎◌, inl, inr, ℕ, zero, suc, ◌+◌, ◌*◌, ◌<◌, ◌≤◌, true, false, not, ◌&&◌, nat_eq, Some, None, unwrap_or, [], length, map, refl, ap, sym, ◌∙◌, subst, arith, IsTrue}
+use Rattle.std.proofs.Common.{◌≡◌, inl, inr, ℕ, zero, suc, ◌+◌, ◌*◌, ◌≤◌, not, ◌&&◌, nat_eq, Some, unwrap_or, [], length, map, refl, ap, sym, ◌∙◌, subst, arith, IsTrue}
 use Rattle.std.specs.Map.{lookup}
 use Rattle.std.proofs.lemmas.List.FromFn.{length-map-range_with_len}
 use Rattle.hr_base.specs.Lists.{numbered, has, is_distinct}
-use Rattle.hr_history.specs.declared.phase.Phase.TheVariants as phase
 use Rattle.hr_history.specs.View.{View, TxnState, Attempt, Progress, view_of, progress_in}
-use Rattle.hr_history.specs.Processed.{txn_in, phase_in, replica_in, attempt_in, runs_in, live_in, unknown_txn, idle_replica, no_attempt}
+use Rattle.hr_history.specs.Processed.{txn_in, replica_in, attempt_in, runs_in, live_in, unknown_txn, idle_replica, no_attempt}
 use Rattle.hr_history.proofs.StepLemmas.{replica_lookup}
 use Rattle.hr_records.proofs.Options.{some_none, same_some}
 use Rattle.hr_moves.specs.Sane.{IsSane, cut_to}

@@ -1,5 +1,5 @@
 -- How histories grow by turns.
-use Rattle.std.proofs.Common.{◌≡◌, ℕ, Bool, true, false, ◌&&◌, ◌==◌, Option, Some, None, is_none, List, [], ◌∷◌, ◌++◌, reverse, refl, ap, sym, ◌∙◌, subst, append_assoc, append-nil, All, IsTrue}
+use Rattle.std.proofs.Common.{◌≡◌, ℕ, true, Option, Some, None, is_none, List, [], ◌∷◌, ◌++◌, reverse, refl, ap, sym, ◌∙◌, subst, append_assoc, append-nil, IsTrue}
 use Rattle.std.proofs.lemmas.Bool.{and_parts, and_from, eq-eqb}
 use Rattle.std.proofs.lemmas.List.{reverse-append, reverse-reverse}
 use Rattle.std.proofs.lemmas.List.Elements.{All-nil, All-cons, All-append}
@@ -8,7 +8,7 @@ use Rattle.hr_history.specs.declared.entry.Event.{Event}
 use Rattle.hr_history.specs.History.{History, history_of}
 use Rattle.hr_history.specs.Rules.{due}
 use Rattle.hr_history.specs.Turns.{FollowFrom, is_due}
-use Rattle.hr_history.specs.Faithful.{Begun, Faithful, is_begun, is_next, is_faithful, is_allowed, is_turn_of, same_event}
+use Rattle.hr_history.specs.Faithful.{Faithful, is_begun, is_next, is_allowed, is_turn_of, same_event}
 use Rattle.hr_moves.specs.Callers.{IsTurn, Grows}
 
 none_of : {X : Type 0} (o : Option X) → is_none o ≡ true → o ≡ None

@@ -1,5 +1,5 @@
 -- What an event makes of the open transactions, and of those touched at a replica.
-use Rattle.std.proofs.Common.{◌≡◌, ◌⊎◌, inl, inr, ℕ, zero, suc, ◌+◌, ◌*◌, ◌<◌, ◌≤◌, Bool, true, false, not, ◌&&◌, ◌||◌, ◌==◌, nat_lt, cond, if◌then◌else◌, Option, Some, None, Err, List, [], ◌∷◌, ◌++◌, length, map, filter, refl, ap, sym, ◌∙◌, subst, arith, length-append, append-nil, IsTrue}
+use Rattle.std.proofs.Common.{◌≡◌, ℕ, zero, suc, ◌+◌, ◌<◌, ◌≤◌, Bool, true, false, not, ◌&&◌, ◌||◌, ◌==◌, nat_lt, cond, if◌then◌else◌, Option, Some, Err, List, [], ◌∷◌, ◌++◌, length, filter, refl, ap, sym, ◌∙◌, arith, append-nil, IsTrue}
 use Rattle.std.specs.List.{range_with_len}
 use Rattle.std.proofs.lemmas.Bool.{eqb-true, eq-eqb, ne_eqb, lt-ltb, le-ltb}
 use Rattle.std.proofs.lemmas.List.Elements.{filter-append}
@@ -19,10 +19,10 @@ use Rattle.hr_history.specs.declared.phase.Phase.TheVariants as phase
 use Rattle.hr_history.specs.Transactions.{is_open, next_phase}
 use Rattle.hr_history.specs.Replicas.{any_stmt, call_of, call_if, restart_of, restart_if}
 use Rattle.hr_history.specs.View.{View, Attempt}
-use Rattle.hr_history.specs.Processed.{phase_in, replica_in, attempt_in, no_attempt}
+use Rattle.hr_history.specs.Processed.{phase_in, replica_in, attempt_in}
 use Rattle.hr_history.specs.Jobs.{txn_numbers}
 use Rattle.hr_history.specs.Faithful.{fits_job, is_restart}
-use Rattle.hr_history.specs.Step.{out_in, call_in, touched_after, txn_after, begun_by, view_step}
+use Rattle.hr_history.specs.Step.{out_in, call_in, touched_after, begun_by, view_step}
 use Rattle.hr_moves.specs.Kept.{open_in, touched_in, entries_in, without, and_in_order, next_open, touched_by_reply, next_touched_in}
 use Rattle.hr_moves.specs.Sane.{IsSane, IsKnown}
 use Rattle.hr_moves.specs.Fits.{Fits}

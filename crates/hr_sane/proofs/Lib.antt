@@ -26,3 +26,5 @@ pub mod RoomLaws
 pub mod Outcomes
 pub mod KeptLists
 pub mod ProcessedLaws
+pub mod RoomFollows
+pub mod OneTurn

@@ -1,28 +1,25 @@
 -- The log, the phases and the given answers, after an event.
-use Rattle.std.proofs.Common.{◌≡◌, ◌⊎◌, ◌↔◌, inl, inr, ℕ, zero, suc, ◌+◌, ◌*◌, ◌<◌, ◌≤◌, Bool, true, false, not, ◌&&◌, ◌||◌, ◌==◌, cond, if◌then◌else◌, Option, Some, None, List, [], ◌∷◌, ◌++◌, length, refl, ap, sym, ◌∙◌, subst, arith, length-append, IsTrue}
-use Rattle.std.proofs.lemmas.Bool.{and_parts, eqb-true, eq-eqb, ne_eqb}
+use Rattle.std.proofs.Common.{◌≡◌, ◌↔◌, inl, inr, ℕ, ◌+◌, ◌≤◌, Bool, true, false, ◌&&◌, ◌==◌, if◌then◌else◌, Option, Some, None, List, [], ◌∷◌, ◌++◌, length, refl, ap, sym, ◌∙◌, arith, length-append, IsTrue}
+use Rattle.std.proofs.lemmas.Bool.{and_parts, eqb-true, eq-eqb}
 use Rattle.hr_base.specs.Lists.{numbered}
 use Rattle.hr_engine.specs.declared.reply.RunReply.TheVariants as run
 use Rattle.hr_history.specs.declared.entry.Event.{Event}
 use Rattle.hr_history.specs.declared.entry.Event.TheVariants as event
 use Rattle.hr_history.specs.declared.job.Job.{Job}
 use Rattle.hr_history.specs.declared.job.Job.TheVariants as job
-use Rattle.hr_history.specs.declared.job.JobReply.{JobReply}
 use Rattle.hr_history.specs.declared.job.JobReply.TheVariants as reply
 use Rattle.hr_history.specs.declared.phase.Phase.{Phase}
 use Rattle.hr_history.specs.declared.phase.Phase.TheVariants as phase
 use Rattle.hr_history.specs.Transactions.{is_open, next_log, next_phase}
 use Rattle.hr_history.specs.Primary.{is_some_of}
-use Rattle.hr_history.specs.Given.{Given, next_given, given_by, is_run_of}
+use Rattle.hr_history.specs.Given.{Given, next_given, is_run_of}
 use Rattle.hr_history.specs.View.{View, TxnState}
-use Rattle.hr_history.specs.Processed.{txn_in, phase_in, replica_in, unknown_txn}
-use Rattle.hr_history.specs.Step.{out_in, found_in, next_count, view_step}
-use Rattle.hr_records.proofs.Options.{some_none, same_some}
-use Rattle.hr_records.proofs.Places.{same_or_not, numbered_born, numbered_front, numbered_more, numbered_end}
+use Rattle.hr_history.specs.Processed.{txn_in, phase_in}
+use Rattle.hr_history.specs.Step.{out_in, found_in, next_count}
+use Rattle.hr_records.proofs.Places.{numbered_front, numbered_more, numbered_end}
 use Rattle.hr_records.proofs.NumberSteps.{same_place, open_unlogged}
-use Rattle.hr_moves.specs.Sane.{IsSane, IsKnown, MayBeOut}
+use Rattle.hr_moves.specs.Sane.{IsSane, IsKnown}
 use Rattle.hr_moves.specs.Fits.{Fits}
-use Rattle.hr_sane.proofs.Lists.{on_true, on_false}
 use Rattle.hr_sane.proofs.Next.{true_false, was_unknown}
 
 pub log_grows : (e : Event) (log : List ℕ) → length log ≤ length (next_log e log)

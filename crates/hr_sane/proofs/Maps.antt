@@ -1,5 +1,5 @@
 -- A map over the numbers of a list, and over the keys of its entries, is a map over the list.
-use Rattle.std.proofs.Common.{◌≡◌, ℕ, zero, suc, ◌+◌, Bool, true, false, not, ◌&&◌, ◌==◌, nat_eq, cond, Option, Some, None, List, [], ◌∷◌, length, map, slice_get, refl, ap, sym, ◌∙◌, arith}
+use Rattle.std.proofs.Common.{◌≡◌, ℕ, suc, ◌+◌, Bool, true, false, not, ◌==◌, nat_eq, Some, List, [], ◌∷◌, length, map, slice_get, refl, ap, sym, ◌∙◌, arith}
 use Rattle.std.specs.Map.{lookup}
 use Rattle.std.specs.List.{range_with_len}
 use Rattle.std.proofs.lemmas.Bool.{and_parts, eq-eqb, ne_eqb}
@@ -7,7 +7,6 @@ use Rattle.hr_base.specs.Lists.{has, is_distinct}
 use Rattle.hr_records.proofs.Options.{some_none}
 use Rattle.hr_moves.specs.Changes.{map_from}
 use Rattle.hr_sane.proofs.Lists.{on_true, on_false, lookup_absent}
-use Rattle.hr_sane.proofs.Next.{true_false}
 
 module _ {X : Type 0} where
   pub map_is : (g : ℕ → X) (k : ℕ → X → X) (a : ℕ) (xs : List X) → ((i j : ℕ) (x : X) → a + i ≡ j → slice_get xs i ≡ Some x → g j ≡ k j x) → map g (range_with_len a (length xs)) ≡ map_from k a xs

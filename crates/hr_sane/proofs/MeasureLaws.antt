@@ -1,55 +1,39 @@
 -- The measure falls with each entry that is due, and no call needs more room than it reserves.
-use Rattle.std.proofs.Common.{◌≡◌, ◌⊎◌, inl, inr, ℕ, zero, suc, ◌+◌, ◌*◌, ◌<◌, ◌≤◌, Bool, true, false, not, ◌&&◌, ◌||◌, ◌==◌, nat_eq, cond, if◌then◌else◌, Option, Some, None, is_some, is_none, unwrap_or, List, [], ◌∷◌, ◌++◌, length, map, count_by, refl, ap, sym, ◌∙◌, subst, arith, length-append, IsTrue}
+use Rattle.std.proofs.Common.{◌≡◌, inl, inr, ℕ, ◌+◌, ◌≤◌, Bool, true, false, not, ◌&&◌, ◌==◌, nat_eq, if◌then◌else◌, Option, Some, None, unwrap_or, [], length, map, refl, ap, sym, ◌∙◌, arith, length-append, IsTrue}
 use Rattle.std.specs.Map.{lookup}
-use Rattle.std.specs.List.{range_with_len}
-use Rattle.std.proofs.lemmas.Bool.{and_parts, and_from, eqb-true, eq-eqb, ne_eqb}
+use Rattle.std.proofs.lemmas.Bool.{and_parts, and_from, eq-eqb}
 use Rattle.std.proofs.lemmas.List.FromFn.{length-map-range_with_len}
-use Rattle.hr_base.specs.Lists.{is_empty, one_to}
+use Rattle.hr_base.specs.Lists.{is_empty}
 use Rattle.hr_base.proofs.Tests.{eq_turn, and_false}
-use Rattle.hr_engine.specs.declared.reply.RunReply.{RunReply}
-use Rattle.hr_engine.specs.declared.reply.RunReply.TheVariants as run
-use Rattle.hr_engine.specs.declared.reply.EndReply.{EndReply}
-use Rattle.hr_engine.specs.declared.reply.EndReply.TheVariants as end
 use Rattle.hr_history.specs.declared.entry.Event.{Event}
 use Rattle.hr_history.specs.declared.entry.Event.TheVariants as event
 use Rattle.hr_history.specs.declared.cause.CauseAt.{CauseAt}
 use Rattle.hr_history.specs.declared.evidence.Evidence.{Evidence}
-use Rattle.hr_history.specs.declared.job.Job.{Job}
-use Rattle.hr_history.specs.declared.job.Job.TheVariants as job
-use Rattle.hr_history.specs.declared.job.JobReply.{JobReply}
-use Rattle.hr_history.specs.declared.job.JobReply.TheVariants as reply
 use Rattle.hr_history.specs.declared.phase.Phase.{Phase}
 use Rattle.hr_history.specs.declared.phase.Phase.TheVariants as phase
-use Rattle.hr_history.specs.declared.phase.Last.TheVariants as last
-use Rattle.hr_history.specs.History.{is_call}
-use Rattle.hr_history.specs.ReplicaNumbers.{replica_numbers}
 use Rattle.hr_history.specs.Transactions.{is_open, is_asked, is_ended, next_phase}
-use Rattle.hr_history.specs.Primary.{other_than}
 use Rattle.hr_history.specs.Turn.{Turn}
-use Rattle.hr_history.specs.View.{View, Attempt, Progress, TxnState, is_fresh}
+use Rattle.hr_history.specs.View.{View, Attempt, is_fresh}
 use Rattle.hr_history.specs.Processed.{phase_in, replica_in, attempt_in, runs_in, live_in, no_attempt}
 use Rattle.hr_history.specs.Jobs.{txn_numbers}
-use Rattle.hr_history.specs.Preemption.{stays, is_to_give_way}
+use Rattle.hr_history.specs.Preemption.{stays}
 use Rattle.hr_history.specs.Rules.{due_in}
-use Rattle.hr_history.specs.Faithful.{fits_job, is_restart}
-use Rattle.hr_history.specs.Step.{out_in, fresh_after, txn_after, begun_by, replica_after, view_step}
-use Rattle.hr_records.specs.ByRule.{HasEvidence, IsElected, GivesWay, Follows}
+use Rattle.hr_history.specs.Step.{fresh_after, txn_after, begun_by, replica_after, view_step}
+use Rattle.hr_records.specs.ByRule.{HasEvidence, GivesWay, Follows}
 use Rattle.hr_records.proofs.Options.{on_some}
 use Rattle.hr_records.proofs.RuleLemmas.{asked_is_open, due_by_rule}
 use Rattle.hr_records.proofs.ViewWords.{open_txn}
 use Rattle.hr_moves.specs.Changes.{change_at, with_attempts, with_attempt}
 use Rattle.hr_moves.specs.Sane.{IsSane, IsReplica}
 use Rattle.hr_moves.specs.Fits.{Fits}
-use Rattle.hr_moves.specs.Moves.{free, and_entry, with_entry, with_job, with_answer, with_waits, ended_among, lose, commit, restart, rest_attempt}
-use Rattle.hr_moves.specs.Measure.{may_be_preempted, todo_in, room_in, reserved_by}
-use Rattle.hr_sane.proofs.Lists.{on_true, on_false}
+use Rattle.hr_moves.specs.Moves.{rest_attempt}
+use Rattle.hr_moves.specs.Measure.{may_be_preempted, todo_in}
+use Rattle.hr_sane.proofs.Lists.{on_true}
 use Rattle.hr_sane.proofs.Elsewhere.{IsElsewhere}
 use Rattle.hr_sane.proofs.Next.{true_false, replica_at, txn_at}
 use Rattle.hr_sane.proofs.ReplicaMoves.{rests, replica_stays}
-use Rattle.hr_sane.proofs.ReplyMoves.{done_here, blocked_here, deadlock_here, nothing_here, lost_here, commit_lost, rollback_lost, committed_here, rolled_back_here, still_lost_here, restarted_here, taken_here, convicted_here, preempted_here}
-use Rattle.hr_sane.proofs.MoveLaws.{stale_from, restart_out}
-use Rattle.hr_sane.proofs.Totals.{total, one_le, range_le, range_more}
-use Rattle.hr_sane.proofs.Rooms.{todo_of, out_of, weight, vacancy, opens, todos, weights, todo_total, room_total, rest_may, change_may, todo_fewer, todo_one_more, todo_one_less, todo_entry, todos_le, todos_at, weights_le, weights_at, opens_le, opens_less}
+use Rattle.hr_sane.proofs.ReplyMoves.{convicted_here, preempted_here}
+use Rattle.hr_sane.proofs.Rooms.{todo_of, weight, vacancy, opens, todo_total, rest_may, change_may, todo_fewer, todo_one_less, todos_le, todos_at, opens_le, opens_less}
 
 pub vacancy_most : (o : Option ℕ) → vacancy o ≤ 1
 vacancy_most None = omega arith

@@ -1,8 +1,6 @@
 -- In a sane view each event changes what its word says.
-use Rattle.std.proofs.Common.{◌≡◌, ◌⊎◌, inl, inr, ℕ, zero, suc, ◌+◌, ◌*◌, Bool, true, false, not, ◌&&◌, ◌||◌, ◌==◌, cond, if◌then◌else◌, Option, Some, None, unwrap_or, List, [], ◌∷◌, ◌++◌, length, map, slice_get, refl, ap, sym, ◌∙◌, subst, arith, append-nil, IsTrue}
-use Rattle.std.specs.List.{range_with_len}
-use Rattle.std.proofs.lemmas.Bool.{and_parts, eqb-true, eq-eqb, ne_eqb}
-use Rattle.hr_base.specs.Lists.{numbered}
+use Rattle.std.proofs.Common.{◌≡◌, ℕ, zero, suc, ◌+◌, Bool, true, false, not, ◌&&◌, ◌==◌, if◌then◌else◌, Option, Some, None, unwrap_or, List, [], ◌∷◌, ◌++◌, length, map, slice_get, refl, ap, sym, ◌∙◌, arith, append-nil, IsTrue}
+use Rattle.std.proofs.lemmas.Bool.{eqb-true, ne_eqb}
 use Rattle.hr_base.proofs.Tests.{eq_turn}
 use Rattle.hr_rel.specs.declared.answer.Answer.{Answer}
 use Rattle.hr_engine.specs.declared.reply.RunReply.{RunReply}
@@ -19,27 +17,25 @@ use Rattle.hr_history.specs.declared.evidence.Evidence.{Evidence}
 use Rattle.hr_history.specs.declared.phase.Phase.{Phase}
 use Rattle.hr_history.specs.declared.phase.Phase.TheVariants as phase
 use Rattle.hr_history.specs.declared.phase.Last.TheVariants as last
-use Rattle.hr_history.specs.declared.phase.Fresh.{Fresh}
 use Rattle.hr_history.specs.ReplicaNumbers.{replica_numbers}
 use Rattle.hr_history.specs.Transactions.{is_open}
 use Rattle.hr_history.specs.Primary.{is_some_of, other_than, next_search_after}
-use Rattle.hr_history.specs.Given.{Given, is_run_of, next_given}
+use Rattle.hr_history.specs.Given.{Given, is_run_of}
 use Rattle.hr_history.specs.Turn.{fresh_from}
-use Rattle.hr_history.specs.View.{View, TxnState, Attempt, Progress, is_fresh}
-use Rattle.hr_history.specs.Processed.{txn_in, phase_in, replica_in, attempt_in, live_in, runs_in, candidate_in, unknown_txn, no_attempt}
+use Rattle.hr_history.specs.View.{View, TxnState, Progress, is_fresh}
+use Rattle.hr_history.specs.Processed.{txn_in, phase_in, replica_in, attempt_in, runs_in, candidate_in, unknown_txn}
 use Rattle.hr_history.specs.Jobs.{txn_numbers}
 use Rattle.hr_history.specs.Faithful.{fits_job, is_restart}
-use Rattle.hr_history.specs.Step.{out_in, found_in, fresh_after, txn_after, begun_by, replica_after, view_step}
+use Rattle.hr_history.specs.Step.{out_in, fresh_after, txn_after, begun_by, replica_after, view_step}
 use Rattle.hr_rel.specs.declared.stmt.Stmt.{Stmt}
 use Rattle.hr_history.specs.declared.cause.CauseAt.{CauseAt}
 use Rattle.hr_records.proofs.Places.{got_within}
-use Rattle.hr_moves.specs.Changes.{map_from, change_at, with_txn, with_phase, with_replica, with_attempts, with_attempt}
+use Rattle.hr_moves.specs.Changes.{map_from, change_at, with_replica, with_attempts, with_attempt}
 use Rattle.hr_moves.specs.Sane.{IsSane}
 use Rattle.hr_moves.specs.Fits.{Fits}
 use Rattle.hr_moves.specs.Moves.{free, with_job, with_answer, with_waits, ended_among, lose, commit, restart, rest_attempt, rested, is_given, with_given, with_reply, after_waits, after_no_memory, after_loss, after_commit, after_rollback, after_still_lost, after_give, view_after}
-use Rattle.hr_sane.proofs.Lists.{on_true, on_false}
+use Rattle.hr_sane.proofs.Lists.{on_false}
 use Rattle.hr_sane.proofs.Elsewhere.{IsElsewhere}
-use Rattle.hr_sane.proofs.Next.{true_false}
 use Rattle.hr_sane.proofs.Maps.{map_is, map_whole, map_twice}
 use Rattle.hr_sane.proofs.ReplicaMoves.{each_replica, whole_replicas, one_replica, rests, replica_stays}
 use Rattle.hr_sane.proofs.ReplyMoves.{done_here, blocked_here, deadlock_here, nothing_here, lost_here, commit_lost, rollback_lost, committed_here, rolled_back_here, still_lost_here, restarted_here, taken_here, convicted_here, preempted_here}

@@ -1,12 +1,10 @@
 -- What one more entry makes of each word of a sane view, where the event fits it.
-use Rattle.std.proofs.Common.{◌≡◌, ◌⊎◌, inl, inr, ℕ, zero, suc, ◌+◌, ◌*◌, ◌<◌, ◌≤◌, Bool, true, false, not, ◌&&◌, ◌||◌, ◌==◌, nat_eq, nat_le, cond, if◌then◌else◌, Option, Some, None, unwrap_or, option_and_then, List, [], ◌∷◌, ◌++◌, length, map, filter, slice_get, refl, ap, sym, ◌∙◌, subst, arith, length-append, append-nil}
+use Rattle.std.proofs.Common.{◌≡◌, ◌⊎◌, inl, inr, ℕ, zero, suc, ◌+◌, ◌*◌, ◌≤◌, Bool, true, false, not, ◌&&◌, ◌||◌, ◌==◌, nat_eq, nat_le, if◌then◌else◌, Option, Some, None, unwrap_or, option_and_then, List, [], ◌∷◌, ◌++◌, length, map, filter, refl, ap, sym, ◌∙◌, subst, arith, length-append}
 use Rattle.std.specs.Map.{lookup}
-use Rattle.std.specs.List.{range_with_len}
-use Rattle.std.proofs.lemmas.Bool.{leb-true, le-leb, ne_eqb, eq-eqb, eqb-true}
+use Rattle.std.proofs.lemmas.Bool.{leb-true, le-leb, ne_eqb, eq-eqb}
 use Rattle.std.proofs.lemmas.List.FromFn.{length-map-range_with_len}
-use Rattle.hr_rel.specs.declared.answer.Answer.{Answer}
 use Rattle.hr_rel.specs.declared.stmt.Stmt.{Stmt}
-use Rattle.hr_base.specs.Lists.{numbered, has, once, is_empty}
+use Rattle.hr_base.specs.Lists.{has, once}
 use Rattle.hr_base.proofs.Tests.{and_false, has_end, or_false}
 use Rattle.hr_engine.specs.Journal.{Call, Ran, Committed, RolledBack, Restarted}
 use Rattle.hr_engine.specs.Effects.{effect_of}
@@ -19,26 +17,23 @@ use Rattle.hr_history.specs.declared.job.Job.{Job}
 use Rattle.hr_history.specs.declared.job.Job.TheVariants as job
 use Rattle.hr_history.specs.declared.job.JobReply.{JobReply}
 use Rattle.hr_history.specs.declared.job.JobReply.TheVariants as reply
-use Rattle.hr_history.specs.declared.phase.Phase.{Phase}
 use Rattle.hr_history.specs.declared.phase.Phase.TheVariants as phase
-use Rattle.hr_history.specs.declared.phase.Last.{Last}
 use Rattle.hr_history.specs.declared.phase.Last.TheVariants as last
 use Rattle.hr_history.specs.Transactions.{is_open, next_phase}
-use Rattle.hr_history.specs.Replicas.{any_stmt, next_out, next_convicted, call_of, call_if, restart_of, restart_if}
+use Rattle.hr_history.specs.Replicas.{any_stmt, call_of, call_if, restart_of, restart_if}
 use Rattle.hr_history.specs.Primary.{is_some_of}
 use Rattle.hr_history.specs.Given.{Given, Found, next_given, given_by, is_run_of}
-use Rattle.hr_history.specs.Attempts.{next_places, next_touched, next_preempted, ends_attempt, next_dispatched, and_dispatched, still_told, told_by}
+use Rattle.hr_history.specs.Attempts.{next_places, next_preempted, ends_attempt, next_dispatched, and_dispatched, still_told, told_by}
 use Rattle.hr_history.specs.View.{View, TxnState, Progress, Attempt, is_fresh}
-use Rattle.hr_history.specs.Processed.{txn_in, phase_in, replica_in, attempt_in, runs_in, unknown_txn, idle_replica, no_attempt, named_in, cycle_in}
+use Rattle.hr_history.specs.Processed.{txn_in, replica_in, attempt_in, runs_in, unknown_txn, idle_replica, no_attempt, named_in, cycle_in}
 use Rattle.hr_history.specs.Jobs.{txn_numbers}
-use Rattle.hr_history.specs.Step.{answers_after, touched_after, next_count, begun_by, commits_after, commits_in, out_in, call_in, found_in, fresh_after, txn_after, wait_left, standing_left, runs_after, last_after, attempt_after, replica_after, view_step}
+use Rattle.hr_history.specs.Step.{answers_after, touched_after, next_count, begun_by, commits_after, out_in, call_in, found_in, fresh_after, txn_after, wait_left, standing_left, runs_after, last_after, attempt_after, replica_after, view_step}
 use Rattle.hr_history.proofs.StepLemmas.{mapped}
 use Rattle.hr_history.proofs.Quiet.{runs_of, asks}
-use Rattle.hr_records.proofs.Options.{some_none, same_some}
 use Rattle.hr_records.proofs.Places.{same_or_not, numbered_front, numbered_end}
 use Rattle.hr_records.proofs.ViewWords.{open_txn}
 use Rattle.hr_moves.specs.Kept.{entries_in}
-use Rattle.hr_moves.specs.Sane.{IsSane, IsReplica, IsKnown, HasEntry, MayBeOut}
+use Rattle.hr_moves.specs.Sane.{IsSane, IsReplica, IsKnown, HasEntry}
 use Rattle.hr_moves.specs.Fits.{Fits, IsOpen}
 use Rattle.hr_sane.proofs.Lists.{got_none, on_true, on_false, keys_of_made, lookup_made, lookup_absent}
 use Rattle.hr_sane.proofs.Elsewhere.{IsElsewhere, no_call, out_stays, convicted_stays, entries_stay}

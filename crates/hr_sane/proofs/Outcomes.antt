@@ -1,6 +1,6 @@
 -- What the votes and a restart's count say is what the history's words say.
-use Rattle.std.proofs.Common.{◌≡◌, ◌⊎◌, ◌↔◌, inl, inr, ℕ, ◌+◌, ◌*◌, ◌<◌, ◌≤◌, Bool, true, false, not, ◌&&◌, ◌||◌, ◌==◌, nat_le, cond, if◌then◌else◌, Option, Some, None, is_some, Ok, List, [], ◌∷◌, ◌++◌, length, count_by, find, refl, ap, sym, ◌∙◌, arith, length-append, IsTrue}
-use Rattle.std.proofs.lemmas.Bool.{and_parts, and_from, leb-true}
+use Rattle.std.proofs.Common.{◌≡◌, ◌↔◌, ℕ, ◌+◌, ◌*◌, ◌<◌, Bool, true, false, ◌&&◌, ◌||◌, ◌==◌, if◌then◌else◌, Option, Some, None, is_some, Ok, List, [], ◌∷◌, ◌++◌, length, count_by, refl, ap, sym, ◌∙◌, length-append, IsTrue}
+use Rattle.std.proofs.lemmas.Bool.{and_parts, leb-true}
 use Rattle.hr_base.specs.Counters.{shown}
 use Rattle.hr_rel.specs.declared.stmt.Stmt.{Stmt}
 use Rattle.hr_engine.specs.Journal.{Restarted}
@@ -23,7 +23,6 @@ use Rattle.hr_moves.specs.declared.outcome.Settled.TheVariants as end
 use Rattle.hr_moves.specs.TurnSteps.{is_sound_at}
 use Rattle.hr_moves.specs.Outcomes.{differ_by, tally_in, settle_in}
 use Rattle.hr_sane.proofs.Lists.{on_true, on_false}
-use Rattle.hr_sane.proofs.Next.{true_false}
 use Rattle.hr_sane.proofs.TurnLemmas.{sound_same}
 
 -- ---- votes

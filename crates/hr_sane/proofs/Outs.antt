@@ -1,9 +1,8 @@
 -- The job that is out at a replica, after an event.
-use Rattle.std.proofs.Common.{◌≡◌, ◌⊎◌, inl, inr, ℕ, zero, suc, ◌+◌, ◌*◌, ◌<◌, ◌≤◌, Bool, true, false, not, ◌&&◌, ◌||◌, ◌==◌, nat_le, if◌then◌else◌, Option, Some, None, List, [], ◌∷◌, ◌++◌, length, slice_get, refl, ap, sym, ◌∙◌, subst, arith, IsTrue}
-use Rattle.std.proofs.lemmas.Bool.{and_parts, or_parts, eqb-true, eq-eqb, leb-true, ne_eqb, or_left, or_right}
+use Rattle.std.proofs.Common.{◌≡◌, ◌⊎◌, inl, inr, ℕ, ◌+◌, ◌<◌, ◌≤◌, Bool, true, false, ◌&&◌, ◌==◌, nat_le, if◌then◌else◌, Option, Some, None, List, [], ◌∷◌, ◌++◌, length, slice_get, refl, ap, sym, ◌∙◌, subst, arith}
+use Rattle.std.proofs.lemmas.Bool.{and_parts, eqb-true, eq-eqb, leb-true, ne_eqb, or_right}
 use Rattle.hr_base.specs.Lists.{has}
 use Rattle.hr_base.proofs.Tests.{has_end}
-use Rattle.hr_engine.specs.Journal.{Call}
 use Rattle.hr_history.specs.declared.entry.Event.{Event}
 use Rattle.hr_history.specs.declared.entry.Event.TheVariants as event
 use Rattle.hr_history.specs.declared.job.Job.{Job}
@@ -14,19 +13,19 @@ use Rattle.hr_history.specs.Given.{Given}
 use Rattle.hr_history.specs.Attempts.{next_dispatched, and_dispatched}
 use Rattle.hr_history.specs.View.{View, Attempt, Progress}
 use Rattle.hr_history.specs.Processed.{txn_in, phase_in, replica_in, attempt_in, answers_in, processed_in}
-use Rattle.hr_history.specs.Jobs.{next_in_log, is_stamped_by, job_in, may_go_on, may_run_first, may_repeat, pending_index, next_index}
+use Rattle.hr_history.specs.Jobs.{is_stamped_by, may_go_on, pending_index, next_index}
 use Rattle.hr_history.specs.Step.{out_in, call_in, next_count, commits_after, commits_in, touched_after, view_step}
 use Rattle.hr_records.specs.ByRule.{IsRunOf, IsByRule}
-use Rattle.hr_records.proofs.Options.{some_none, same_some}
+use Rattle.hr_records.proofs.Options.{same_some}
 use Rattle.hr_records.proofs.Places.{got_within, got_front}
 use Rattle.hr_records.proofs.JobLemmas.{job_rule}
 use Rattle.hr_moves.specs.Kept.{entries_in}
-use Rattle.hr_moves.specs.Sane.{IsSane, IsReplica, IsKnown, HasEntry, MayBeOut}
+use Rattle.hr_moves.specs.Sane.{IsSane, IsKnown, HasEntry, MayBeOut}
 use Rattle.hr_moves.specs.Fits.{Fits}
 use Rattle.hr_sane.proofs.Lists.{on_true, on_false}
 use Rattle.hr_sane.proofs.Elsewhere.{no_call}
-use Rattle.hr_sane.proofs.Next.{TxnAt, txn_at, entries_at, replica_at, attempt_at}
-use Rattle.hr_sane.proofs.Entries.{keep_entry, entry_kept}
+use Rattle.hr_sane.proofs.Next.{txn_at, entries_at, replica_at, attempt_at}
+use Rattle.hr_sane.proofs.Entries.{entry_kept}
 
 -- a job that may be out, but for the entry
 abbrev pub MayBeTaken : View → ℕ → Job → Type 0

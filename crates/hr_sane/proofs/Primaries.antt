@@ -1,7 +1,6 @@
 -- The primary and the start of the search, after an event.
-use Rattle.std.proofs.Common.{◌≡◌, ◌⊎◌, inl, inr, ℕ, zero, suc, ◌+◌, ◌*◌, ◌<◌, ◌≤◌, Bool, true, false, not, ◌&&◌, ◌||◌, ◌==◌, if◌then◌else◌, Option, Some, None, unwrap_or, Ok, Err, find, List, [], ◌∷◌, refl, ap, sym, ◌∙◌, subst, arith, IsTrue}
-use Rattle.std.proofs.lemmas.Bool.{and_parts, and_from, eqb-true, eq-eqb, ne_eqb}
-use Rattle.hr_engine.specs.Journal.{Call, Ran, Committed, RolledBack, Restarted}
+use Rattle.std.proofs.Common.{◌≡◌, ℕ, ◌+◌, ◌*◌, Bool, true, false, not, ◌||◌, ◌==◌, if◌then◌else◌, Option, Some, None, unwrap_or, refl, ap, sym, ◌∙◌, subst, arith, IsTrue}
+use Rattle.std.proofs.lemmas.Bool.{and_parts, and_from}
 use Rattle.hr_engine.specs.declared.reply.RunReply.TheVariants as run
 use Rattle.hr_engine.specs.declared.reply.EndReply.TheVariants as end
 use Rattle.hr_history.specs.declared.entry.Event.{Event}
@@ -12,16 +11,13 @@ use Rattle.hr_history.specs.declared.job.JobReply.{JobReply}
 use Rattle.hr_history.specs.declared.job.JobReply.TheVariants as reply
 use Rattle.hr_history.specs.ReplicaNumbers.{replica_numbers}
 use Rattle.hr_history.specs.Replicas.{any_stmt, next_convicted, call_of, call_if, restart_of, restart_if, tells_loss}
-use Rattle.hr_history.specs.Primary.{is_some_of, other_than, next_primary, start_at_suspect, next_search_after}
+use Rattle.hr_history.specs.Primary.{other_than, next_primary, start_at_suspect, next_search_after}
 use Rattle.hr_history.specs.View.{View, Progress}
 use Rattle.hr_history.specs.Processed.{replica_in, live_in, candidate_in}
-use Rattle.hr_history.specs.Step.{Commits, commits_after, commits_in, out_in, call_in, replica_after, view_step}
-use Rattle.hr_records.proofs.Options.{some_none, same_some, find_has, has_round, has_range}
-use Rattle.hr_records.proofs.Places.{same_or_not}
+use Rattle.hr_history.specs.Step.{Commits, commits_after, commits_in, out_in, call_in, view_step}
+use Rattle.hr_records.proofs.Options.{same_some, find_has, has_round, has_range}
 use Rattle.hr_moves.specs.Sane.{IsSane, IsReplica}
 use Rattle.hr_moves.specs.Fits.{Fits}
-use Rattle.hr_sane.proofs.Lists.{on_true, on_false}
-use Rattle.hr_sane.proofs.Elsewhere.{no_call}
 use Rattle.hr_sane.proofs.Next.{true_false, replica_at}
 
 -- who is primary though this replica isn't any more

@@ -1,10 +1,8 @@
 -- How many of the log are processed at a replica, after an event.
-use Rattle.std.proofs.Common.{◌≡◌, ◌⊎◌, inl, inr, ℕ, zero, suc, ◌+◌, ◌*◌, ◌<◌, ◌≤◌, Bool, true, false, not, ◌&&◌, ◌||◌, ◌==◌, nat_le, cond, if◌then◌else◌, Option, Some, None, Ok, Err, List, [], ◌∷◌, ◌++◌, length, drop, take_while, slice_get, refl, ap, sym, ◌∙◌, subst, arith, IsTrue}
-use Rattle.std.proofs.lemmas.Bool.{and_parts, or_cases, or_left, or_right, eqb-true, eq-eqb, ne_eqb, le-leb, leb-true}
+use Rattle.std.proofs.Common.{◌≡◌, ◌⊎◌, inl, inr, ℕ, zero, suc, ◌+◌, ◌<◌, ◌≤◌, Bool, true, false, ◌&&◌, ◌==◌, nat_le, cond, if◌then◌else◌, Option, Some, None, Ok, Err, List, [], ◌∷◌, ◌++◌, length, drop, take_while, slice_get, refl, ap, sym, ◌∙◌, arith, IsTrue}
+use Rattle.std.proofs.lemmas.Bool.{or_cases, or_left, or_right, eqb-true, ne_eqb, le-leb, leb-true}
 use Rattle.std.proofs.lemmas.List.Sums.{take_while-cons}
 use Rattle.hr_base.specs.Counters.{shown}
-use Rattle.hr_base.specs.Lists.{numbered, is_empty}
-use Rattle.hr_rel.specs.declared.answer.Answer.{Answer}
 use Rattle.hr_engine.specs.Journal.{Call, Ran, Committed, RolledBack, Restarted}
 use Rattle.hr_engine.specs.declared.reply.RunReply.TheVariants as run
 use Rattle.hr_engine.specs.declared.reply.EndReply.TheVariants as end
@@ -16,20 +14,18 @@ use Rattle.hr_history.specs.declared.job.JobReply.{JobReply}
 use Rattle.hr_history.specs.declared.job.JobReply.TheVariants as reply
 use Rattle.hr_history.specs.declared.phase.Phase.{Phase}
 use Rattle.hr_history.specs.declared.phase.Phase.TheVariants as phase
-use Rattle.hr_history.specs.Transactions.{is_open, next_log}
 use Rattle.hr_history.specs.Replicas.{any_stmt, call_of, call_if, restart_of, restart_if}
 use Rattle.hr_history.specs.View.{View, Attempt, Progress, TxnState}
-use Rattle.hr_history.specs.Processed.{txn_in, phase_in, replica_in, attempt_in, answers_in, is_logged_by, is_committed, is_whole, is_processed, processed_in}
+use Rattle.hr_history.specs.Processed.{txn_in, phase_in, replica_in, answers_in, is_logged_by, is_committed, is_whole, is_processed, processed_in}
 use Rattle.hr_history.specs.Faithful.{fits_job, is_restart}
 use Rattle.hr_history.specs.Step.{Commits, commits_after, commits_in, out_in, call_in, answers_after, next_count, view_step}
 use Rattle.hr_records.proofs.Options.{same_some, some_none}
-use Rattle.hr_records.proofs.Places.{got_within, got_front, got_some}
+use Rattle.hr_records.proofs.Places.{got_some}
 use Rattle.hr_records.proofs.NumberSteps.{same_place, open_unlogged}
-use Rattle.hr_records.proofs.ViewWords.{open_txn}
 use Rattle.hr_moves.specs.Kept.{before_it, still_by_reply, still_processed, processed_from}
 use Rattle.hr_moves.specs.Sane.{IsSane}
 use Rattle.hr_moves.specs.Fits.{Fits}
-use Rattle.hr_sane.proofs.Lists.{on_true, on_false}
+use Rattle.hr_sane.proofs.Lists.{on_false}
 use Rattle.hr_sane.proofs.Elsewhere.{no_call}
 use Rattle.hr_sane.proofs.Next.{le_or_not, was_unknown, true_false, replica_at, attempt_at, txn_at}
 use Rattle.hr_sane.proofs.Logs.{refused_unlogged, log_grows}

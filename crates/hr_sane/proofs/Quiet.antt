@@ -1,8 +1,6 @@
 -- What a call makes of an attempt that has nothing to roll back after it: nothing is left, as if it had never begun.
-use Rattle.std.proofs.Common.{◌≡◌, ℕ, Bool, true, false, not, ◌&&◌, ◌||◌, ◌==◌, if◌then◌else◌, Option, Some, None, List, [], ◌∷◌, ◌++◌, filter, option_and_then, refl, ap, sym, ◌∙◌}
-use Rattle.hr_rel.specs.declared.answer.Answer.{Answer}
+use Rattle.std.proofs.Common.{◌≡◌, ℕ, Bool, true, false, not, ◌&&◌, ◌==◌, if◌then◌else◌, Option, Some, None, List, [], filter, option_and_then, refl, ap, ◌∙◌}
 use Rattle.hr_base.proofs.Tests.{or_false, and_false, if_false, if_same}
-use Rattle.hr_engine.specs.Journal.{Call}
 use Rattle.hr_engine.specs.Effects.{Effect, effect_of, next_items}
 use Rattle.hr_engine.specs.Effects as does
 use Rattle.hr_engine.specs.Waits.{next_wait, next_standing, if_all}

@@ -1,37 +1,20 @@
 -- What each event makes of one replica in a sane view.
-use Rattle.std.proofs.Common.{◌≡◌, ◌⊎◌, inl, inr, ℕ, zero, suc, ◌+◌, ◌*◌, Bool, true, false, not, ◌&&◌, ◌||◌, ◌==◌, nat_eq, cond, if◌then◌else◌, Option, Some, None, unwrap_or, Ok, Err, option_and_then, List, [], ◌∷◌, ◌++◌, length, map, filter, slice_get, refl, ap, sym, ◌∙◌, subst, arith, IsTrue}
-use Rattle.std.specs.Map.{lookup}
+use Rattle.std.proofs.Common.{◌≡◌, ℕ, ◌+◌, Bool, true, false, ◌==◌, if◌then◌else◌, Some, None, unwrap_or, List, [], ◌∷◌, length, map, slice_get, refl, ap, sym, ◌∙◌, arith}
 use Rattle.std.specs.List.{range_with_len}
-use Rattle.std.proofs.lemmas.Bool.{eqb-true, eq-eqb, ne_eqb}
-use Rattle.hr_base.specs.Lists.{has}
-use Rattle.hr_rel.specs.declared.answer.Answer.{Answer}
-use Rattle.hr_engine.specs.Journal.{Call, Ran, Committed, RolledBack, Restarted}
-use Rattle.hr_engine.specs.declared.reply.RunReply.{RunReply}
-use Rattle.hr_engine.specs.declared.reply.RunReply.TheVariants as run
-use Rattle.hr_engine.specs.declared.reply.EndReply.{EndReply}
-use Rattle.hr_engine.specs.declared.reply.EndReply.TheVariants as end
+use Rattle.std.proofs.lemmas.Bool.{eqb-true}
 use Rattle.hr_history.specs.declared.entry.Event.{Event}
-use Rattle.hr_history.specs.declared.entry.Event.TheVariants as event
-use Rattle.hr_history.specs.declared.job.Job.{Job}
-use Rattle.hr_history.specs.declared.job.Job.TheVariants as job
-use Rattle.hr_history.specs.declared.job.JobReply.{JobReply}
-use Rattle.hr_history.specs.declared.job.JobReply.TheVariants as reply
-use Rattle.hr_history.specs.declared.phase.Last.{Last}
-use Rattle.hr_history.specs.declared.phase.Last.TheVariants as last
-use Rattle.hr_history.specs.Replicas.{any_stmt, next_out, next_convicted, call_of, call_if, restart_of, restart_if}
 use Rattle.hr_history.specs.ReplicaNumbers.{replica_numbers}
-use Rattle.hr_history.specs.Attempts.{next_dispatched, next_preempted, and_dispatched}
+use Rattle.hr_history.specs.Attempts.{next_dispatched}
 use Rattle.hr_history.specs.View.{View, Attempt, Progress, is_fresh}
-use Rattle.hr_history.specs.Processed.{replica_in, attempt_in, runs_in, idle_replica, no_attempt}
-use Rattle.hr_history.specs.Step.{Commits, commits_after, commits_in, out_in, call_in, fresh_after, attempt_after, replica_after}
-use Rattle.hr_moves.specs.Changes.{map_from, change_at, with_attempts, with_attempt}
+use Rattle.hr_history.specs.Processed.{replica_in, attempt_in, idle_replica, no_attempt}
+use Rattle.hr_history.specs.Step.{commits_after, commits_in, call_in, fresh_after, attempt_after, replica_after}
+use Rattle.hr_moves.specs.Changes.{map_from, change_at, with_attempts}
 use Rattle.hr_moves.specs.Kept.{entries_in}
-use Rattle.hr_moves.specs.Sane.{IsSane, IsReplica, HasEntry, cut_to}
-use Rattle.hr_moves.specs.Moves.{free, and_entry, with_entry, with_job, with_answer, with_waits, ended_among, lose, commit, restart, rest_attempt}
-use Rattle.hr_sane.proofs.Lists.{on_true, on_false}
+use Rattle.hr_moves.specs.Sane.{IsSane, HasEntry}
+use Rattle.hr_moves.specs.Moves.{rest_attempt}
 use Rattle.hr_sane.proofs.Elsewhere.{IsElsewhere, no_call, out_stays, convicted_stays, entries_stay, preempted_stays}
 use Rattle.hr_sane.proofs.Maps.{map_is, map_whole, by_entries, lookup_has}
-use Rattle.hr_sane.proofs.AttemptMoves.{attempt_with, none_rested, none_same, preempt_at, done_at, blocked_at, deadlock_at, nothing_at, ended_at}
+use Rattle.hr_sane.proofs.AttemptMoves.{attempt_with, none_rested, none_same}
 
 -- ---- all replicas
 

@@ -1,15 +1,12 @@
 -- What a reply makes of its replica in a sane view.
-use Rattle.std.proofs.Common.{◌≡◌, ℕ, zero, suc, ◌+◌, ◌*◌, Bool, true, false, not, ◌&&◌, ◌||◌, ◌==◌, nat_eq, cond, if◌then◌else◌, Option, Some, None, unwrap_or, Ok, Err, option_and_then, List, [], ◌∷◌, ◌++◌, length, map, filter, refl, ap, sym, ◌∙◌, subst, arith, IsTrue}
-use Rattle.std.specs.Map.{lookup}
-use Rattle.std.proofs.lemmas.Bool.{eqb-true, eq-eqb, ne_eqb, or_left}
+use Rattle.std.proofs.Common.{◌≡◌, ℕ, ◌+◌, Bool, true, false, ◌==◌, if◌then◌else◌, Option, Some, None, unwrap_or, Ok, Err, List, [], ◌∷◌, ◌++◌, map, refl, ap, sym, ◌∙◌, IsTrue}
+use Rattle.std.proofs.lemmas.Bool.{eqb-true, eq-eqb, or_left}
 use Rattle.std.proofs.lemmas.List.{map-append}
 use Rattle.hr_base.specs.Lists.{has}
 use Rattle.hr_rel.specs.declared.answer.Answer.{Answer}
 use Rattle.hr_engine.specs.Journal.{Call, Ran, Committed, RolledBack, Restarted}
-use Rattle.hr_engine.specs.Effects.{effect_of}
 use Rattle.hr_engine.specs.declared.reply.RunReply.{RunReply}
 use Rattle.hr_engine.specs.declared.reply.RunReply.TheVariants as run
-use Rattle.hr_engine.specs.declared.reply.EndReply.{EndReply}
 use Rattle.hr_engine.specs.declared.reply.EndReply.TheVariants as end
 use Rattle.hr_history.specs.declared.entry.Event.{Event}
 use Rattle.hr_history.specs.declared.entry.Event.TheVariants as event
@@ -19,18 +16,16 @@ use Rattle.hr_history.specs.declared.job.JobReply.{JobReply}
 use Rattle.hr_history.specs.declared.job.JobReply.TheVariants as reply
 use Rattle.hr_history.specs.declared.evidence.Evidence.{Evidence}
 use Rattle.hr_history.specs.declared.phase.Last.TheVariants as last
-use Rattle.hr_history.specs.declared.phase.Fresh.{Fresh}
 use Rattle.hr_history.specs.Replicas.{any_stmt, call_of, call_if, restart_of, restart_if}
 use Rattle.hr_history.specs.Attempts.{next_dispatched, and_dispatched}
 use Rattle.hr_history.specs.Turn.{fresh_from}
 use Rattle.hr_history.specs.View.{View, Attempt, Progress, is_fresh}
 use Rattle.hr_history.specs.Processed.{replica_in, attempt_in, runs_in, no_attempt}
-use Rattle.hr_history.specs.Step.{Commits, commits_after, commits_in, out_in, call_in, fresh_after, attempt_after, replica_after, view_step, last_if}
+use Rattle.hr_history.specs.Step.{Commits, commits_after, commits_in, out_in, call_in, fresh_after, attempt_after, replica_after, last_if}
 use Rattle.hr_moves.specs.Changes.{change_at, with_attempts, with_attempt}
 use Rattle.hr_moves.specs.Kept.{entries_in}
-use Rattle.hr_moves.specs.Sane.{IsSane, MayBeOut}
-use Rattle.hr_moves.specs.Moves.{free, and_entry, with_entry, with_job, with_answer, with_waits, ended_among, lose, commit, restart, rest_attempt}
-use Rattle.hr_moves.specs.Fits.{Fits}
+use Rattle.hr_moves.specs.Sane.{IsSane}
+use Rattle.hr_moves.specs.Moves.{free, and_entry, with_job, with_answer, with_waits, ended_among, lose, commit, restart, rest_attempt}
 use Rattle.hr_sane.proofs.Lists.{on_true, on_false, lookup_absent}
 use Rattle.hr_sane.proofs.AttemptMoves.{attempt_with, none_rested, none_same, preempt_at, done_at, blocked_at, deadlock_at, nothing_at, ended_at}
 use Rattle.hr_sane.proofs.ReplicaMoves.{each_attempt, whole_attempts}

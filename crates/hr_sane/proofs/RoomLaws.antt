@@ -1,6 +1,5 @@
 -- No call needs more room than it reserves.
-use Rattle.std.proofs.Common.{◌≡◌, ◌⊎◌, inl, inr, ℕ, zero, suc, ◌+◌, ◌*◌, ◌<◌, ◌≤◌, Bool, true, false, not, ◌&&◌, ◌||◌, ◌==◌, cond, if◌then◌else◌, Option, Some, None, is_some, List, [], ◌∷◌, length, refl, ap, sym, ◌∙◌, subst, arith, IsTrue}
-use Rattle.std.specs.List.{range_with_len}
+use Rattle.std.proofs.Common.{◌≡◌, ℕ, suc, ◌+◌, ◌<◌, ◌≤◌, Bool, true, false, not, ◌&&◌, ◌==◌, cond, if◌then◌else◌, Option, Some, None, is_some, [], length, refl, ap, sym, ◌∙◌, arith, IsTrue}
 use Rattle.std.proofs.lemmas.Bool.{eqb-true, eq-eqb, ne_eqb}
 use Rattle.hr_base.specs.Lists.{one_to, is_distinct}
 use Rattle.hr_base.proofs.Tests.{eq_turn}
@@ -15,32 +14,29 @@ use Rattle.hr_history.specs.declared.job.Job.{Job}
 use Rattle.hr_history.specs.declared.job.Job.TheVariants as job
 use Rattle.hr_history.specs.declared.job.JobReply.{JobReply}
 use Rattle.hr_history.specs.declared.job.JobReply.TheVariants as reply
-use Rattle.hr_history.specs.declared.phase.Phase.{Phase}
 use Rattle.hr_history.specs.declared.phase.Phase.TheVariants as phase
 use Rattle.hr_history.specs.declared.phase.Last.{Last}
 use Rattle.hr_history.specs.declared.phase.Last.TheVariants as last
 use Rattle.hr_history.specs.History.{is_call}
 use Rattle.hr_history.specs.Transactions.{is_open, next_phase}
-use Rattle.hr_history.specs.Primary.{other_than, next_primary}
+use Rattle.hr_history.specs.Primary.{other_than}
 use Rattle.hr_history.specs.View.{View, Attempt, Progress, is_fresh}
-use Rattle.hr_history.specs.Processed.{phase_in, replica_in, attempt_in, runs_in, no_attempt}
-use Rattle.hr_history.specs.Jobs.{txn_numbers}
-use Rattle.hr_history.specs.Faithful.{fits_job, is_restart}
+use Rattle.hr_history.specs.Processed.{phase_in, replica_in, runs_in, no_attempt}
+use Rattle.hr_history.specs.Faithful.{fits_job}
 use Rattle.hr_history.specs.Step.{out_in, fresh_after, begun_by, replica_after, view_step}
 use Rattle.hr_moves.specs.Changes.{change_at, with_attempts, with_attempt}
-use Rattle.hr_moves.specs.Kept.{entries_in}
 use Rattle.hr_moves.specs.Sane.{IsSane, IsReplica, cut_to}
 use Rattle.hr_moves.specs.Fits.{Fits}
-use Rattle.hr_moves.specs.Moves.{free, and_entry, with_entry, with_job, with_answer, with_waits, ended_among, lose, commit, restart, rest_attempt}
+use Rattle.hr_moves.specs.Moves.{free, with_job, with_answer, with_waits, ended_among, lose, commit, restart, rest_attempt}
 use Rattle.hr_moves.specs.Measure.{may_be_preempted, room_in, reserved_by}
 use Rattle.hr_sane.proofs.Lists.{on_true, on_false}
 use Rattle.hr_sane.proofs.Elsewhere.{IsElsewhere}
-use Rattle.hr_sane.proofs.Next.{true_false, replica_at}
+use Rattle.hr_sane.proofs.Next.{replica_at}
 use Rattle.hr_sane.proofs.ReplyMoves.{keys_same, done_here, blocked_here, deadlock_here, nothing_here, lost_here, commit_lost, rollback_lost, committed_here, rolled_back_here, still_lost_here, restarted_here, taken_here}
 use Rattle.hr_sane.proofs.MoveLaws.{stale_from, restart_out}
 use Rattle.hr_sane.proofs.Totals.{total, one_le, range_le, range_more}
 use Rattle.hr_sane.proofs.Rooms.{todo_of, out_of, weight, vacancy, opens, weights, room_total, rest_may, change_may, todo_fewer, todo_one_more, todo_entry, weights_le, weights_at}
-use Rattle.hr_sane.proofs.MeasureLaws.{vacancy_most, phase_at, count_with, opens_stay, opens_fall, rests_weight, away_weight, closed_by}
+use Rattle.hr_sane.proofs.MeasureLaws.{vacancy_most, phase_at, count_with, opens_stay, opens_fall, away_weight, closed_by}
 
 -- an open transaction is asked for
 asked_by : (v : View) (b : Bool) (u t n : ℕ) → (u == t) ≡ b → is_open (phase_in v u) ≡ true → is_open (if b then phase.Asked n else phase_in v t) ≡ true → is_open (phase_in v t) ≡ true

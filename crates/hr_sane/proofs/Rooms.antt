@@ -1,30 +1,18 @@
 -- What each event makes of the measure, and of the room that is to be kept.
-use Rattle.std.proofs.Common.{◌≡◌, ◌⊎◌, inl, inr, ℕ, zero, suc, ◌+◌, ◌*◌, ◌<◌, ◌≤◌, Bool, true, false, not, ◌&&◌, ◌||◌, ◌==◌, nat_eq, cond, if◌then◌else◌, Option, Some, None, is_some, is_none, unwrap_or, List, [], ◌∷◌, ◌++◌, length, map, filter, sum, count_by, refl, ap, sym, ◌∙◌, subst, arith, IsTrue}
+use Rattle.std.proofs.Common.{◌≡◌, ℕ, ◌+◌, ◌*◌, ◌≤◌, Bool, true, false, ◌==◌, nat_eq, cond, if◌then◌else◌, Option, Some, is_some, is_none, [], ◌∷◌, ◌++◌, length, map, count_by, ap, arith}
 use Rattle.std.specs.Map.{lookup}
-use Rattle.std.specs.List.{range_with_len}
-use Rattle.std.proofs.lemmas.Bool.{and_parts, and_from, eqb-true, eq-eqb, ne_eqb}
-use Rattle.std.proofs.lemmas.List.FromFn.{length-map-range_with_len}
-use Rattle.hr_base.specs.Lists.{has, is_empty, is_distinct, one_to}
-use Rattle.hr_base.proofs.Tests.{eq_turn}
-use Rattle.hr_rel.specs.declared.answer.Answer.{Answer}
-use Rattle.hr_history.specs.declared.entry.Event.{Event}
-use Rattle.hr_history.specs.declared.entry.Event.TheVariants as event
-use Rattle.hr_history.specs.declared.job.Job.{Job}
-use Rattle.hr_history.specs.declared.job.Job.TheVariants as job
-use Rattle.hr_history.specs.declared.phase.Last.{Last}
+use Rattle.hr_base.specs.Lists.{has, is_distinct, one_to}
 use Rattle.hr_history.specs.ReplicaNumbers.{replica_numbers}
-use Rattle.hr_history.specs.Transactions.{is_open, next_phase}
+use Rattle.hr_history.specs.Transactions.{is_open}
 use Rattle.hr_history.specs.View.{View, Attempt, Progress, is_fresh}
-use Rattle.hr_history.specs.Processed.{phase_in, replica_in, attempt_in, runs_in, no_attempt}
+use Rattle.hr_history.specs.Processed.{phase_in, replica_in, runs_in, no_attempt}
 use Rattle.hr_history.specs.Jobs.{txn_numbers}
-use Rattle.hr_history.specs.Step.{txn_after, begun_by, replica_after, view_step}
-use Rattle.hr_moves.specs.Changes.{change_at, with_attempts, with_attempt}
-use Rattle.hr_moves.specs.Kept.{open_in, entries_in}
-use Rattle.hr_moves.specs.Sane.{IsSane, IsReplica, cut_to}
-use Rattle.hr_moves.specs.Moves.{free, and_entry, with_entry, with_job, with_answer, with_waits, ended_among, lose, commit, restart, rest_attempt}
-use Rattle.hr_moves.specs.Measure.{may_be_preempted, todo_at, todo_in, jobs_out_in, room_in}
-use Rattle.hr_sane.proofs.Lists.{on_true, on_false, lookup_absent}
-use Rattle.hr_sane.proofs.Totals.{total, count_total, total_le, total_end, total_twice, one_le, sum_total, filter_total, range_le, range_at, range_more, counted, count_le, count_more, count_less}
+use Rattle.hr_moves.specs.Changes.{change_at, with_attempts}
+use Rattle.hr_moves.specs.Kept.{open_in}
+use Rattle.hr_moves.specs.Sane.{IsReplica, cut_to}
+use Rattle.hr_moves.specs.Moves.{and_entry, rest_attempt}
+use Rattle.hr_moves.specs.Measure.{may_be_preempted, todo_at, todo_in, room_in}
+use Rattle.hr_sane.proofs.Totals.{total, count_total, total_le, total_end, total_twice, one_le, sum_total, filter_total, range_at, counted, count_le, count_more, count_less}
 
 -- ---- the measure and the room, as totals
 

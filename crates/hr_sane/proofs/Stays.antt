@@ -1,18 +1,16 @@
 -- A sane view stays sane, field by field.
-use Rattle.std.proofs.Common.{◌≡◌, ℕ, zero, suc, ◌+◌, ◌*◌, ◌<◌, ◌≤◌, Bool, true, false, not, ◌==◌, if◌then◌else◌, Option, Some, None, filter, option_and_then, List, [], ◌∷◌, length, map, refl, ap, sym, ◌∙◌, subst, arith, IsTrue}
+use Rattle.std.proofs.Common.{◌≡◌, ℕ, ◌+◌, ◌*◌, ◌<◌, ◌≤◌, false, not, if◌then◌else◌, Option, Some, None, filter, option_and_then, length, refl, ap, sym, ◌∙◌, subst, arith, IsTrue}
 use Rattle.std.proofs.lemmas.List.FromFn.{length-map-range_with_len}
 use Rattle.hr_base.specs.Lists.{is_empty}
 use Rattle.hr_engine.specs.Journal.{Call}
 use Rattle.hr_engine.specs.Effects.{effect_of}
 use Rattle.hr_engine.specs.Waits.{if_all, next_wait, next_standing}
 use Rattle.hr_history.specs.declared.entry.Event.{Event}
-use Rattle.hr_history.specs.declared.phase.Last.{Last}
-use Rattle.hr_history.specs.Transactions.{next_phase}
 use Rattle.hr_history.specs.Attempts.{still_told, told_by}
 use Rattle.hr_history.specs.View.{View, Attempt, Progress, is_fresh}
 use Rattle.hr_history.specs.Processed.{txn_in, phase_in, replica_in, attempt_in, runs_in, no_attempt}
-use Rattle.hr_history.specs.Step.{answers_after, touched_after, commits_after, commits_in, out_in, call_in, fresh_after, wait_left, standing_left, runs_after, last_if, last_after, attempt_after, replica_after, view_step}
-use Rattle.hr_moves.specs.Sane.{IsSane, IsReplica, MayBeOut, cut_to}
+use Rattle.hr_history.specs.Step.{answers_after, touched_after, commits_after, commits_in, call_in, fresh_after, wait_left, standing_left, runs_after, last_if, last_after, attempt_after, replica_after, view_step}
+use Rattle.hr_moves.specs.Sane.{IsSane, cut_to}
 use Rattle.hr_moves.specs.Fits.{Fits}
 use Rattle.hr_sane.proofs.CallsOut.{replied}
 use Rattle.hr_sane.proofs.Next.{replica_at, attempt_at, txn_at, untouched_after}

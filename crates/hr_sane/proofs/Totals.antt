@@ -1,16 +1,14 @@
 -- Sums and counts, as totals over lists, and what one place adds to them.
-use Rattle.std.proofs.Common.{◌≡◌, ℕ, zero, suc, ◌+◌, ◌*◌, ◌<◌, ◌≤◌, Bool, true, false, not, ◌&&◌, ◌==◌, nat_eq, cond, if◌then◌else◌, Option, Some, None, List, [], ◌∷◌, ◌++◌, length, map, filter, sum, sum_by, count_by, refl, ap, sym, ◌∙◌, subst, arith}
+use Rattle.std.proofs.Common.{◌≡◌, ℕ, zero, suc, ◌+◌, ◌*◌, ◌<◌, ◌≤◌, Bool, true, false, not, ◌==◌, nat_eq, cond, Some, List, [], ◌∷◌, ◌++◌, length, map, filter, sum, count_by, refl, ap, sym, ◌∙◌, subst, arith}
 use Rattle.std.specs.Map.{lookup}
 use Rattle.std.specs.List.{range_with_len}
 use Rattle.std.proofs.lemmas.Bool.{and_parts, eqb-true, eq-eqb, ne_eqb}
 use Rattle.std.proofs.lemmas.List.Sums.{sum_by-cons, length-filter}
 use Rattle.hr_base.specs.Lists.{has, is_distinct}
-use Rattle.hr_base.proofs.Tests.{eq_turn, or_false}
+use Rattle.hr_base.proofs.Tests.{or_false}
 use Rattle.hr_history.specs.View.{Attempt}
 use Rattle.hr_records.proofs.Options.{same_some}
-use Rattle.hr_moves.specs.Changes.{change_at}
 use Rattle.hr_moves.specs.Measure.{may_be_preempted}
-use Rattle.hr_sane.proofs.Lists.{on_true, on_false}
 
 module _ {X : Type 0} where
   abbrev pub total : (X → ℕ) → List X → ℕ

@@ -1,17 +1,16 @@
 -- What a turn keeps, one entry later.
-use Rattle.std.proofs.Common.{◌≡◌, ℕ, ◌+◌, ◌*◌, ◌<◌, Bool, true, false, not, ◌&&◌, ◌||◌, ◌==◌, if◌then◌else◌, Option, Some, None, is_some, List, [], ◌∷◌, length, refl, ap, sym, ◌∙◌}
-use Rattle.hr_base.specs.Counters.{shown}
+use Rattle.std.proofs.Common.{◌≡◌, ℕ, ◌+◌, ◌*◌, ◌<◌, not, if◌then◌else◌, ◌∷◌, length, refl, ap, sym}
 use Rattle.hr_base.specs.Lists.{when}
-use Rattle.hr_engine.specs.Base.{count, settled}
+use Rattle.hr_engine.specs.Base.{count}
 use Rattle.hr_history.specs.declared.entry.Entry.{Entry}
 use Rattle.hr_history.specs.declared.entry.Event.{Event}
 use Rattle.hr_history.specs.declared.entry.Event.TheVariants as event
 use Rattle.hr_history.specs.History.{History, is_call}
 use Rattle.hr_history.specs.Replicas.{journal_of}
-use Rattle.hr_history.specs.Turn.{Turn, Counted, went, bad_count, next_went, next_bad_count, is_sound_count, turn_of}
-use Rattle.hr_history.specs.View.{View, Progress, view_of}
+use Rattle.hr_history.specs.Turn.{went, bad_count, next_went, next_bad_count, is_sound_count, turn_of}
+use Rattle.hr_history.specs.View.{view_of}
 use Rattle.hr_history.specs.Processed.{replica_in}
-use Rattle.hr_history.specs.Faithful.{is_allowed, Begun}
+use Rattle.hr_history.specs.Faithful.{Begun}
 use Rattle.hr_history.proofs.StepLemmas.{replica_lookup, call_allowed}
 use Rattle.hr_records.proofs.Allowed.{restart_allowed}
 use Rattle.hr_moves.specs.TurnSteps.{is_sound_at, went_after, bad_count_after, turn_step}

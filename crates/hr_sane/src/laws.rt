@@ -51,9 +51,10 @@ pub fn turns_step()
     ensures { (f sessions : ℕ) (e : Entry) (before : History) → Begun f sessions (e ∷ before) → turn_of (e ∷ before) ≡ turn_step (view_of f before) (turn_of before) (length before) e.event }
 {}
 
-/// From a faithful history a turn that an allowed call begins leads to a faithful one.
+/// From a faithful history a turn that an allowed call begins leads to a faithful one. A call has one turn only.
 pub fn turns_keep_faith()
-    ensures { (f sessions caller : ℕ) (call : Event) (before after : History) → Faithful f sessions before → IsTrue (is_allowed f sessions caller call before) → IsTurn f caller call before after → Faithful f sessions after }
+    ensures faithful { (f sessions caller : ℕ) (call : Event) (before after : History) → Faithful f sessions before → IsTrue (is_allowed f sessions caller call before) → IsTurn f caller call before after → Faithful f sessions after }
+    ensures one { (f caller : ℕ) (call : Event) (before after other : History) → IsTurn f caller call before after → IsTurn f caller call before other → after ≡ other }
 {}
 
 /// By a turn the stored list grows by entries of the turn's caller alone, and so it does by several turns of one caller.
@@ -70,9 +71,10 @@ pub fn measure_falls()
 {}
 
 /// No call takes more room, with its own entry, than was free before it and it reserves: a reply none, since it was
-/// reserved when the job was given.
+/// reserved when the job was given. What is due takes its entry from the room that is free.
 pub fn room_is_kept()
-    ensures { (v : View) (place asks : ℕ) (e : Event) → IsSane v → Fits v e → is_call e ≡ true → room_in (view_step v place asks e) + 1 ≤ room_in v + reserved_by e }
+    ensures calls { (v : View) (place asks : ℕ) (e : Event) → IsSane v → Fits v e → is_call e ≡ true → room_in (view_step v place asks e) + 1 ≤ room_in v + reserved_by e }
+    ensures due { (v : View) (turn : Turn) (place asks : ℕ) (e : Event) → IsSane v → due_in v turn ≡ Some e → room_in (view_step v place asks e) + 1 ≤ room_in v }
 {}
 
 /// What the votes are told to say is what they say: Accept where the transaction may be decided, Differ where its given

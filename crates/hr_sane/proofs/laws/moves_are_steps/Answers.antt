@@ -1,5 +1,5 @@
 use Rattle.hr_sane.proofs.Begun.{begun_sane, begun_fits}
-use Rattle.std.proofs.Common.{◌≡◌, ◌∷◌, length, ◌∙◌}
+use Rattle.std.proofs.Common.{length, ◌∙◌}
 use Rattle.hr_history.specs.Transactions.{asks}
 use Rattle.hr_history.specs.View.{view_of}
 use Rattle.hr_history.proofs.ViewSteps.{view_same}
