@@ -1,20 +1,19 @@
 -- The attempt of a transaction is changed.
-use Rattle.std.proofs.Common.{◌≡◌, ℕ, zero, suc, ◌+◌, ◌<◌, ◌≤◌, Bool, true, false, not, ◌&&◌, ◌||◌, ◌==◌, nat_eq, cond, if◌then◌else◌, Option, Some, None, unwrap_or, List, [], ◌∷◌, map, filter, length, IsTrue, refl, ap, sym, ◌∙◌, subst, arith}
+use Rattle.std.proofs.Common.{◌≡◌, ℕ, Bool, true, false, not, ◌||◌, ◌==◌, nat_eq, cond, Option, Some, None, unwrap_or, List, [], ◌∷◌, map, length, refl, ap, sym, ◌∙◌, subst}
 use Rattle.std.specs.Map.{lookup}
 use Rattle.std.specs.Option.{option_map}
-use Rattle.std.proofs.lemmas.Bool.{eqb-true, eq-eqb, ne_eqb}
+use Rattle.std.proofs.lemmas.Bool.{eqb-true, eq-eqb}
 use Rattle.std.proofs.lemmas.Bool.{and_parts}
 use Rattle.hr_base.specs.Lists.{has, is_distinct, one_to}
-use Rattle.hr_base.proofs.Tests.{or_false, eq_turn}
+use Rattle.hr_base.proofs.Tests.{or_false}
 use Rattle.hr_engine.specs.declared.reply.RunReply.{RunReply}
 use Rattle.hr_history.specs.declared.phase.Fresh.{Fresh}
-use Rattle.hr_history.specs.View.{View, Progress, Attempt}
+use Rattle.hr_history.specs.View.{Progress, Attempt}
 use Rattle.hr_history.specs.Processed.{is_logged_by}
 use Rattle.hr_moves.specs.Changes.{change_at}
-use Rattle.hr_moves.specs.Kept.{entries_in}
 use Rattle.hr_moves.specs.Sane.{IsSane}
-use Rattle.hr_progress.specs.Plain.{PlainTxn, PlainAttempt, PlainProgress, PlainView, idle_attempt, plain_txn_in, plain_attempt_in, plain_replica_in, with_entry}
-use Rattle.hr_progress.specs.Seen.{began_before, runs_since, seen_attempt, seen_entry, seen_replica, seen_plain}
+use Rattle.hr_progress.specs.Plain.{PlainTxn, PlainAttempt, PlainView, idle_attempt, plain_txn_in, plain_attempt_in, plain_replica_in, with_entry}
+use Rattle.hr_progress.specs.Seen.{began_before, runs_since, seen_entry, seen_plain}
 use Rattle.hr_progress.specs.Kept.{IsTold, AreTold, touched_of, processed_of}
 use Rattle.hr_progress.proofs.Changed.{changed_here, unchanged_else, got_kept}
 use Rattle.hr_progress.proofs.Numbers.{filter_same_test, take_while_agree}

@@ -1,24 +1,24 @@
 -- A transaction is begun.
-use Rattle.std.proofs.Common.{◌≡◌, ◌≢◌, ℕ, zero, suc, ◌+◌, ◌<◌, ◌≤◌, Bool, true, false, ◌||◌, ◌==◌, nat_eq, cond, Option, Some, None, unwrap_or, List, [], ◌∷◌, ◌++◌, filter, map, length, slice_get, append-nil, IsTrue, refl, ap, sym, ◌∙◌, subst, arith}
+use Rattle.std.proofs.Common.{◌≡◌, ℕ, zero, suc, ◌+◌, ◌<◌, Bool, true, false, ◌||◌, ◌==◌, nat_eq, cond, Some, unwrap_or, List, [], ◌∷◌, ◌++◌, filter, map, length, slice_get, append-nil, refl, ap, sym, ◌∙◌, subst, arith}
 use Rattle.std.specs.Map.{lookup}
 use Rattle.std.proofs.lemmas.Bool.{eqb-true, eq-eqb}
 use Rattle.std.proofs.lemmas.List.{length-append, length-map}
 use Rattle.std.proofs.lemmas.List.Elements.{filter-append}
 use Rattle.std.proofs.lemmas.Option.{slice_get_past}
-use Rattle.hr_base.specs.Lists.{numbered, has, one_to}
+use Rattle.hr_base.specs.Lists.{has, one_to}
 use Rattle.hr_base.proofs.ListLaws.{filter_agree_on}
-use Rattle.hr_base.proofs.Tests.{or_first, or_second, eq_turn}
+use Rattle.hr_base.proofs.Tests.{or_first, or_second}
 use Rattle.hr_history.specs.declared.phase.Phase.TheVariants as phase
 use Rattle.hr_history.specs.Transactions.{is_open, is_logged}
-use Rattle.hr_history.specs.View.{View, TxnState, Progress, Attempt}
-use Rattle.hr_history.specs.Processed.{phase_in, is_logged_by}
+use Rattle.hr_history.specs.View.{TxnState, Progress, Attempt}
+use Rattle.hr_history.specs.Processed.{is_logged_by}
 use Rattle.hr_moves.specs.Sane.{IsSane}
-use Rattle.hr_progress.specs.Plain.{PlainTxn, PlainAttempt, PlainProgress, PlainView, no_txn, idle_attempt, begun, plain_txn_in, plain_attempt_in, plain_replica_in}
+use Rattle.hr_progress.specs.Plain.{PlainTxn, PlainAttempt, PlainView, no_txn, idle_attempt, begun, plain_txn_in, plain_attempt_in, plain_replica_in}
 use Rattle.hr_progress.specs.Seen.{seen_txn, seen_plain}
-use Rattle.hr_progress.specs.Kept.{IsKept, IsCounted, ArePlaces, AreAnswers, given_places, opened_of, touched_of, processed_of}
+use Rattle.hr_progress.specs.Kept.{IsKept, ArePlaces, AreAnswers, given_places, opened_of, touched_of}
 use Rattle.hr_progress.proofs.Attempts.{keys_seen}
 use Rattle.hr_progress.proofs.Numbers.{has_place, take_while_agree}
-use Rattle.hr_progress.proofs.Parts.{txn_seen, replica_seen, numbered_map}
+use Rattle.hr_progress.proofs.Parts.{txn_seen, replica_seen}
 use Rattle.hr_progress.proofs.Ranges.{in_range, range_suc}
 
 wrong : {b : Bool} → b ≡ true → b ≡ false → ⊥

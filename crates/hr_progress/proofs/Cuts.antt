@@ -1,9 +1,8 @@
 -- What is left of a list that was told, where fewer and fewer of it run.
-use Rattle.std.proofs.Common.{◌≡◌, ℕ, Bool, true, false, not, ◌&&◌, cond, if◌then◌else◌, Option, Some, None, option_and_then, List, [], ◌∷◌, filter, refl, ap, sym, ◌∙◌}
+use Rattle.std.proofs.Common.{◌≡◌, ℕ, Bool, true, false, ◌&&◌, cond, Some, None, List, [], ◌∷◌, filter, refl, ap, sym, ◌∙◌}
 use Rattle.std.specs.List.{list_all}
 use Rattle.hr_base.specs.Lists.{once}
 use Rattle.hr_base.proofs.Tests.{once_again, once_filter}
-use Rattle.hr_engine.specs.Waits.{if_all}
 use Rattle.hr_history.specs.declared.phase.Last.{Last}
 use Rattle.hr_history.specs.declared.phase.Last.TheVariants as last
 use Rattle.hr_history.specs.Attempts.{still_told}

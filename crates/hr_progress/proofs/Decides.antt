@@ -1,15 +1,14 @@
 -- A transaction is decided.
-use Rattle.std.proofs.Common.{◌≡◌, ℕ, zero, suc, ◌+◌, ◌<◌, ◌≤◌, Bool, true, false, not, ◌==◌, Option, Some, None, unwrap_or, List, [], ◌∷◌, ◌++◌, filter, map, length, slice_get, refl, ap, sym, ◌∙◌, subst, arith}
+use Rattle.std.proofs.Common.{◌≡◌, ℕ, zero, suc, ◌+◌, ◌<◌, true, not, ◌==◌, Option, Some, None, unwrap_or, List, [], ◌∷◌, ◌++◌, filter, map, length, slice_get, refl, ap, sym, ◌∙◌, subst, arith}
 use Rattle.std.specs.Option.{option_map}
 use Rattle.std.proofs.lemmas.Option.{slice_get_within}
 use Rattle.hr_base.specs.Lists.{numbered, has, one_to}
 use Rattle.hr_base.proofs.Tests.{kept}
-use Rattle.hr_history.specs.declared.phase.Phase.{Phase}
 use Rattle.hr_history.specs.declared.phase.Phase.TheVariants as phase
 use Rattle.hr_history.specs.Transactions.{is_open}
-use Rattle.hr_history.specs.View.{View, TxnState}
+use Rattle.hr_history.specs.View.{TxnState}
 use Rattle.hr_moves.specs.Moves.{after_decide}
-use Rattle.hr_progress.specs.Plain.{PlainTxn, PlainAttempt, PlainProgress, PlainView, idle_progress, no_txn, plain_txn_in, plain_replica_in, to_phase}
+use Rattle.hr_progress.specs.Plain.{PlainTxn, PlainProgress, PlainView, idle_progress, plain_txn_in, plain_replica_in, to_phase}
 use Rattle.hr_progress.specs.Seen.{seen_txn, seen_plain}
 use Rattle.hr_progress.specs.Kept.{IsKept, IsCounted, ArePlaces, AreTold, AreAnswers, given_places, IsLeast, NoneLess, is_processed_at, recounted, opened_of}
 use Rattle.hr_progress.proofs.Changed.{map_changed}

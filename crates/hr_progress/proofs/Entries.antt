@@ -1,13 +1,12 @@
 -- Entries of a replica.
-use Rattle.std.proofs.Common.{◌≡◌, ℕ, zero, suc, ◌+◌, ◌<◌, Bool, true, false, nat_eq, not, cond, if◌then◌else◌, Option, Some, None, is_some, unwrap_or, List, [], ◌∷◌, map, length, slice_get, position, refl, ap, sym, ◌∙◌, subst, arith}
+use Rattle.std.proofs.Common.{◌≡◌, ℕ, zero, suc, ◌+◌, ◌<◌, Bool, true, false, nat_eq, not, cond, Option, Some, None, is_some, unwrap_or, List, [], ◌∷◌, map, length, slice_get, refl, ap, sym, ◌∙◌, arith}
 use Rattle.std.specs.Map.{lookup}
 use Rattle.std.specs.Option.{option_map}
 use Rattle.std.specs.List.{position_or_len}
-use Rattle.std.proofs.lemmas.Bool.{eqb-true}
 use Rattle.indexmap.specs.IndexMap.{set_value_at}
 use Rattle.hr_progress.specs.declared.attempt.Attempt.{Attempt}
-use Rattle.hr_progress.specs.Plain.{PlainAttempt, plain_attempt, plain_entry, with_entry, plain_attempt_in, idle_attempt}
-use Rattle.hr_progress.proofs.Parts.{lookup_map, unwrap_map}
+use Rattle.hr_progress.specs.Plain.{PlainAttempt, plain_attempt, plain_entry, with_entry}
+use Rattle.hr_progress.proofs.Parts.{lookup_map}
 
 -- the i-th entry is the first of transaction t
 abbrev pub IsFirstOf : {X : Type 0} → ℕ → List (ℕ × X) → ℕ → Type 0

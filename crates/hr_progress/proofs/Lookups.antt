@@ -1,12 +1,12 @@
 -- Look-ups in the lists of the code.
-use Rattle.std.proofs.Common.{◌≡◌, ℕ, zero, suc, ◌+◌, ◌-◌, ◌<◌, ◌≤◌, Bool, true, false, Option, Some, None, unwrap_or, List, [], ◌∷◌, ◌++◌, map, length, slice_get, slice_set, slice_index_or, get_or, vec_capacity, cond, Result, Ok, Err, OnErr, refl, ap, sym, ◌∙◌, subst, arith}
+use Rattle.std.proofs.Common.{◌≡◌, ℕ, zero, suc, ◌+◌, ◌-◌, ◌<◌, ◌≤◌, Bool, true, false, Some, None, unwrap_or, List, [], ◌∷◌, ◌++◌, map, length, slice_get, slice_set, slice_index_or, get_or, vec_capacity, cond, Result, Ok, Err, OnErr, refl, ap, sym, ◌∙◌, subst, arith}
 use Rattle.std.specs.Prelude.{take_while}
 use Rattle.std.specs.Option.{option_map}
 use Rattle.std.proofs.lemmas.List.Sums.{take_while-cons}
 use Rattle.std.proofs.lemmas.Option.{slice_get_read, slice_get_past}
 use Rattle.hr_progress.specs.declared.txn.TxnState.{TxnState}
 use Rattle.hr_progress.specs.declared.progress.Progress.{Progress}
-use Rattle.hr_progress.specs.Plain.{PlainTxn, PlainProgress, no_txn, idle_progress, plain_txn, plain_txn_in, plain_progress, plain_replica_in}
+use Rattle.hr_progress.specs.Plain.{no_txn, idle_progress, plain_txn, plain_txn_in, plain_progress, plain_replica_in}
 use Rattle.hr_progress.specs.Kept.{HaveGivenRoom}
 use Rattle.hr_progress.proofs.Parts.{got_map}
 

@@ -1,11 +1,10 @@
 -- Lists of the numbers that pass a test.
-use Rattle.std.proofs.Common.{◌≡◌, ℕ, zero, suc, ◌+◌, ◌<◌, ◌≤◌, Bool, true, false, not, ◌&&◌, ◌||◌, ◌==◌, cond, if◌then◌else◌, Option, Some, None, List, [], ◌∷◌, ◌++◌, filter, length, slice_get, refl, ap, sym, ◌∙◌, subst, arith}
+use Rattle.std.proofs.Common.{◌≡◌, ℕ, zero, suc, Bool, true, false, ◌&&◌, ◌||◌, ◌==◌, cond, Some, List, [], ◌∷◌, filter, refl, ap, sym, ◌∙◌}
 use Rattle.std.specs.Prelude.{take_while}
-use Rattle.std.specs.List.{range_with_len}
-use Rattle.std.proofs.lemmas.Bool.{ne_eqb, eq-eqb, eqb-true}
+use Rattle.std.proofs.lemmas.Bool.{eq-eqb, eqb-true}
 use Rattle.std.proofs.lemmas.List.Sums.{take_while-cons}
-use Rattle.hr_base.specs.Lists.{numbered, has, one_to}
-use Rattle.hr_base.proofs.Tests.{or_split, or_first, or_second}
+use Rattle.hr_base.specs.Lists.{numbered, has}
+use Rattle.hr_base.proofs.Tests.{or_first, or_second}
 
 pub filter_same_test : {X : Type 0} (p q : X → Bool) (xs : List X) → ((x : X) → p x ≡ q x) → filter p xs ≡ filter q xs
 filter_same_test p q [] same = refl

@@ -1,15 +1,15 @@
 -- What is seen of one replica, of one attempt, and of one transaction.
-use Rattle.std.proofs.Common.{◌≡◌, ℕ, zero, suc, ◌+◌, Bool, true, false, ◌==◌, nat_eq, cond, Option, Some, None, unwrap_or, List, [], ◌∷◌, map, length, slice_get, refl, ap, sym, ◌∙◌, subst, arith}
+use Rattle.std.proofs.Common.{◌≡◌, ℕ, zero, suc, ◌+◌, Bool, true, false, nat_eq, cond, Option, Some, None, unwrap_or, List, [], ◌∷◌, map, length, slice_get, refl, ap, sym, ◌∙◌, arith}
 use Rattle.std.specs.Map.{lookup}
 use Rattle.std.specs.Option.{option_map}
 use Rattle.std.proofs.lemmas.Bool.{eqb-true}
 use Rattle.hr_base.specs.Lists.{numbered}
 use Rattle.hr_engine.specs.declared.reply.RunReply.{RunReply}
 use Rattle.hr_history.specs.declared.phase.Fresh.{Fresh}
-use Rattle.hr_history.specs.View.{View, TxnState, Progress, Attempt, is_fresh}
+use Rattle.hr_history.specs.View.{Progress, is_fresh}
 use Rattle.hr_history.specs.Processed.{txn_in, replica_in, attempt_in, unknown_txn, idle_replica, no_attempt}
-use Rattle.hr_progress.specs.Plain.{PlainTxn, PlainAttempt, PlainProgress, PlainView, idle_progress, idle_attempt, no_txn, plain_txn_in, plain_replica_in, plain_attempt_in}
-use Rattle.hr_progress.specs.Seen.{seen_txn, seen_attempt, seen_entry, seen_replica, seen_replicas, seen_plain}
+use Rattle.hr_progress.specs.Plain.{PlainProgress, PlainView, idle_progress, idle_attempt, no_txn, plain_txn_in, plain_replica_in, plain_attempt_in}
+use Rattle.hr_progress.specs.Seen.{seen_txn, seen_attempt, seen_replica, seen_replicas, seen_plain}
 
 -- a look-up in entries whose values are changed by their keys
 module _ {X Y : Type 0} (h : ℕ → X → Y) where

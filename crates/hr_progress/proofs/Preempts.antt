@@ -1,5 +1,5 @@
 -- A transaction is preempted.
-use Rattle.std.proofs.Common.{◌≡◌, ℕ, ◌+◌, ◌&&◌, ◌==◌, if◌then◌else◌, Bool, true, Option, Some, None, List, map, length, refl, ap, sym, ◌∙◌}
+use Rattle.std.proofs.Common.{◌≡◌, ℕ, ◌+◌, ◌&&◌, ◌==◌, if◌then◌else◌, Bool, true, Option, Some, None, List, map, length, refl, ◌∙◌}
 use Rattle.hr_base.specs.Lists.{is_distinct}
 use Rattle.hr_engine.specs.declared.reply.RunReply.{RunReply}
 use Rattle.hr_history.specs.declared.phase.Fresh.{Fresh}
@@ -8,7 +8,7 @@ use Rattle.hr_moves.specs.Changes.{change_at, with_attempt}
 use Rattle.hr_moves.specs.Sane.{cut_to}
 use Rattle.hr_progress.specs.Plain.{PlainTxn, PlainAttempt, PlainProgress, with_entry, to_preempted, with_preempted}
 use Rattle.hr_progress.specs.Seen.{waits_at, began_before, runs_since, seen_last, seen_attempt, seen_entry, seen_replica}
-use Rattle.hr_progress.specs.Kept.{IsCounted, IsTold, AreTold}
+use Rattle.hr_progress.specs.Kept.{IsCounted, AreTold}
 use Rattle.hr_progress.proofs.Attempts.{entries_changed, told_entry, touched_entry, processed_entry, runs_entry}
 
 -- what is seen of an attempt depends on who runs since when alone

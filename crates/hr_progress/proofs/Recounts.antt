@@ -1,16 +1,14 @@
 -- What is processed is counted anew at each replica.
-use Rattle.std.proofs.Common.{◌≡◌, ◌≢◌, ℕ, zero, suc, ◌+◌, ◌<◌, ◌≤◌, Bool, true, false, ◌==◌, nat_lt, cond, if◌then◌else◌, Option, Some, None, unwrap_or, List, [], ◌∷◌, ◌++◌, map, length, slice_get, take_while, refl, ap, sym, ◌∙◌, subst, arith}
+use Rattle.std.proofs.Common.{◌≡◌, ◌≢◌, ℕ, zero, suc, ◌+◌, ◌<◌, ◌≤◌, Bool, true, false, ◌==◌, nat_lt, cond, if◌then◌else◌, Option, Some, None, unwrap_or, List, [], ◌∷◌, ◌++◌, map, length, slice_get, take_while, refl, ap, sym, subst, arith}
 use Rattle.std.specs.Option.{option_map}
 use Rattle.std.proofs.lemmas.Bool.{eqb-true, eq-eqb, ltb-true, lt-ltb, ltb-false, le-ltb}
 use Rattle.std.proofs.lemmas.List.Sums.{take_while-cons}
 use Rattle.hr_engine.specs.declared.reply.RunReply.{RunReply}
 use Rattle.hr_history.specs.declared.phase.Fresh.{Fresh}
 use Rattle.hr_moves.specs.Changes.{map_from, change_at}
-use Rattle.hr_progress.specs.Plain.{PlainTxn, PlainProgress, idle_progress, plain_replica_in}
+use Rattle.hr_progress.specs.Plain.{PlainTxn, PlainProgress}
 use Rattle.hr_progress.specs.Seen.{seen_replicas}
-use Rattle.hr_progress.specs.Kept.{recounted, processed_of, IsLeast, NoneLess}
-use Rattle.hr_progress.proofs.Changed.{got_from}
-use Rattle.hr_progress.proofs.Parts.{got_map}
+use Rattle.hr_progress.specs.Kept.{recounted, IsLeast, NoneLess}
 
 module _ {X : Type 0} where
   -- those with a lower number are changed

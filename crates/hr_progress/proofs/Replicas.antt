@@ -1,16 +1,13 @@
 -- A replica is changed.
-use Rattle.std.proofs.Common.{◌≡◌, ℕ, zero, suc, ◌+◌, ◌*◌, ◌<◌, ◌≤◌, Bool, true, false, ◌==◌, nat_eq, cond, if◌then◌else◌, Option, Some, None, unwrap_or, List, [], ◌∷◌, map, length, slice_get, refl, ap, sym, ◌∙◌, subst, arith}
-use Rattle.std.specs.Map.{lookup}
+use Rattle.std.proofs.Common.{◌≡◌, ℕ, suc, ◌+◌, ◌*◌, ◌<◌, ◌≤◌, Bool, true, false, ◌==◌, if◌then◌else◌, Option, Some, None, unwrap_or, List, [], ◌∷◌, map, length, slice_get, refl, ap, sym, ◌∙◌, subst, arith}
 use Rattle.std.specs.Option.{option_map}
 use Rattle.std.proofs.lemmas.Bool.{eqb-true}
 use Rattle.std.proofs.lemmas.List.{length-map}
-use Rattle.hr_engine.specs.declared.reply.RunReply.{RunReply}
-use Rattle.hr_history.specs.declared.phase.Fresh.{Fresh}
-use Rattle.hr_history.specs.View.{View, Progress}
+use Rattle.hr_history.specs.View.{Progress}
 use Rattle.hr_moves.specs.Changes.{map_from, change_at, with_replica}
 use Rattle.hr_moves.specs.Sane.{IsSane}
 use Rattle.hr_progress.specs.declared.progress.Progress as code
-use Rattle.hr_progress.specs.Plain.{PlainTxn, PlainAttempt, PlainProgress, PlainView, idle_progress, plain_progress, plain_txn_in, plain_attempt_in, plain_replica_in}
+use Rattle.hr_progress.specs.Plain.{PlainProgress, PlainView, idle_progress, plain_progress, plain_replica_in}
 use Rattle.hr_progress.specs.Seen.{seen_replica, seen_replicas, seen_plain}
 use Rattle.hr_progress.specs.Kept.{IsKept, IsCounted, ArePlaces, AreTold}
 use Rattle.hr_progress.proofs.Changed.{got_from, length_from}

@@ -1,13 +1,13 @@
 -- A replica is restarted.
-use Rattle.std.proofs.Common.{◌≡◌, ℕ, zero, suc, ◌+◌, ◌<◌, ◌≤◌, ◌^◌, Bool, true, false, ◌&&◌, ◌||◌, ◌==◌, nat_le, cond, if◌then◌else◌, List, [], ◌++◌, length, take_while, append-nil, IsTrue, refl, ap, sym, ◌∙◌, subst, arith}
+use Rattle.std.proofs.Common.{◌≡◌, ℕ, ◌+◌, ◌<◌, ◌≤◌, Bool, true, false, ◌&&◌, ◌||◌, ◌==◌, if◌then◌else◌, List, [], length, take_while, append-nil, refl, ap, ◌∙◌, subst, arith}
 use Rattle.std.proofs.lemmas.Bool.{leb-true, le-leb}
 use Rattle.hr_base.specs.Counters.{shown}
 use Rattle.hr_history.specs.declared.phase.Phase.{Phase}
 use Rattle.hr_history.specs.declared.phase.Phase.TheVariants as phase
-use Rattle.hr_history.specs.View.{View, Progress}
+use Rattle.hr_history.specs.View.{Progress}
 use Rattle.hr_history.specs.Processed.{is_logged_by}
 use Rattle.hr_moves.specs.Sane.{IsSane}
-use Rattle.hr_progress.specs.Plain.{PlainTxn, PlainProgress, PlainView, plain_txn_in, plain_attempt_in, plain_replica_in, with_restart}
+use Rattle.hr_progress.specs.Plain.{PlainTxn, PlainProgress, PlainView, plain_txn_in, plain_replica_in, with_restart}
 use Rattle.hr_progress.specs.Seen.{seen_plain}
 use Rattle.hr_progress.specs.Kept.{IsCounted, IsLeast, restarted, is_processed_at}
 use Rattle.hr_progress.proofs.Parts.{replica_seen}

@@ -1,20 +1,18 @@
 -- The turn is over: what its reply told of waits is cut to those that run.
-use Rattle.std.proofs.Common.{◌≡◌, ℕ, zero, suc, ◌+◌, ◌<◌, ◌≤◌, Bool, true, false, not, ◌&&◌, ◌==◌, nat_eq, nat_lt, cond, if◌then◌else◌, Option, Some, None, unwrap_or, List, [], ◌∷◌, map, length, slice_get, IsTrue, refl, ap, sym, ◌∙◌, subst, arith}
+use Rattle.std.proofs.Common.{◌≡◌, ℕ, suc, ◌+◌, ◌<◌, ◌≤◌, Bool, true, false, not, ◌&&◌, ◌==◌, nat_eq, nat_lt, cond, if◌then◌else◌, Option, Some, None, unwrap_or, List, [], ◌∷◌, map, length, slice_get, refl, ap, sym, ◌∙◌, subst, arith}
 use Rattle.std.specs.Map.{lookup}
 use Rattle.std.proofs.lemmas.Bool.{eqb-true, eq-eqb, ltb-true, lt-ltb}
 use Rattle.std.proofs.lemmas.Option.{slice_get_past}
 use Rattle.hr_base.specs.Lists.{is_empty}
 use Rattle.hr_engine.specs.declared.reply.RunReply.{RunReply}
 use Rattle.hr_engine.specs.declared.reply.RunReply.TheVariants as run
-use Rattle.hr_history.specs.declared.phase.Last.{Last}
-use Rattle.hr_history.specs.declared.phase.Fresh.{Fresh}
-use Rattle.hr_history.specs.View.{View, Progress, Attempt, is_fresh}
+use Rattle.hr_history.specs.View.{Attempt, is_fresh}
 use Rattle.hr_history.specs.Processed.{runs_in}
 use Rattle.hr_moves.specs.Changes.{map_from, with_attempts}
 use Rattle.hr_moves.specs.Sane.{cut_to}
 use Rattle.hr_moves.specs.Moves.{rest_attempt, rested}
 use Rattle.hr_progress.specs.Plain.{PlainAttempt, PlainProgress, PlainView, idle_progress, idle_attempt, plain_attempt_in, plain_replica_in}
-use Rattle.hr_progress.specs.Seen.{waits_at, began_before, runs_since, seen_last, seen_attempt, seen_entry, seen_replica, seen_replicas, seen_plain}
+use Rattle.hr_progress.specs.Seen.{waits_at, runs_since, seen_last, seen_attempt, seen_entry, seen_replica, seen_replicas, seen_plain}
 use Rattle.hr_progress.specs.Kept.{is_answer, is_wait, IsTold, AreTold, ArePlaces}
 use Rattle.hr_progress.proofs.Cuts.{cut_within}
 use Rattle.hr_progress.proofs.Parts.{attempt_seen}

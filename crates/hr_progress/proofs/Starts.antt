@@ -1,9 +1,8 @@
 -- The view before anything happened.
-use Rattle.std.proofs.Common.{◌≡◌, ℕ, zero, suc, ◌+◌, ◌*◌, false, true, Option, Some, None, unwrap_or, List, [], ◌∷◌, map, replicate, slice_get, refl, ap, sym, ◌∙◌, subst}
+use Rattle.std.proofs.Common.{◌≡◌, ℕ, zero, suc, ◌+◌, ◌*◌, Some, None, [], ◌∷◌, map, replicate, refl, ap, sym, subst}
 use Rattle.std.specs.List.{range_with_len}
-use Rattle.hr_base.specs.Lists.{numbered}
-use Rattle.hr_history.specs.View.{View, view_of, progress_in}
-use Rattle.hr_progress.specs.Plain.{PlainTxn, PlainProgress, PlainView, idle_progress, idle_attempt, plain_txn_in, plain_replica_in, no_txn}
+use Rattle.hr_history.specs.View.{view_of, progress_in}
+use Rattle.hr_progress.specs.Plain.{PlainProgress, PlainView, idle_progress, plain_txn_in, plain_replica_in}
 use Rattle.hr_progress.specs.Seen.{seen_replicas, seen_plain}
 use Rattle.hr_progress.specs.Kept.{IsCounted, IsKept, ArePlaces, AreTold, AreAnswers, given_places}
 

@@ -1,12 +1,8 @@
 -- A transaction is changed.
-use Rattle.std.proofs.Common.{◌≡◌, ◌↔◌, ℕ, zero, suc, ◌+◌, ◌≤◌, Bool, true, false, not, ◌&&◌, ◌||◌, ◌==◌, cond, Option, Some, None, unwrap_or, List, [], ◌∷◌, filter, map, length, slice_get, IsTrue, refl, ap, sym, ◌∙◌, subst, arith}
-use Rattle.std.specs.Option.{option_map}
-use Rattle.std.proofs.lemmas.Bool.{eq-eqb, eqb-true, ne_eqb}
+use Rattle.std.proofs.Common.{◌≡◌, ℕ, zero, suc, Bool, true, false, not, ◌&&◌, ◌||◌, ◌==◌, Option, Some, None, unwrap_or, List, filter, length, slice_get, refl, ap, sym, ◌∙◌, subst, arith}
+use Rattle.std.proofs.lemmas.Bool.{eq-eqb, eqb-true}
 use Rattle.std.proofs.lemmas.Option.{slice_get_within}
 use Rattle.hr_base.specs.Lists.{numbered, has, one_to}
-use Rattle.hr_engine.specs.declared.reply.RunReply.{RunReply}
-use Rattle.hr_history.specs.declared.phase.Phase.{Phase}
-use Rattle.hr_history.specs.declared.phase.Phase.TheVariants as phase
 use Rattle.hr_history.specs.Transactions.{is_open}
 use Rattle.hr_history.specs.View.{View, TxnState}
 use Rattle.hr_history.specs.Processed.{phase_in, is_logged_by, unknown_txn}
@@ -15,7 +11,7 @@ use Rattle.hr_moves.specs.Sane.{IsSane, IsKnown}
 use Rattle.hr_moves.specs.Fits.{IsOpen}
 use Rattle.hr_progress.specs.Plain.{PlainTxn, PlainProgress, PlainView, no_txn, plain_txn_in, plain_attempt_in, plain_replica_in}
 use Rattle.hr_progress.specs.Seen.{seen_txn, seen_plain}
-use Rattle.hr_progress.specs.Kept.{IsKept, IsCounted, ArePlaces, AreAnswers, given_places, opened_of, processed_of, touched_of}
+use Rattle.hr_progress.specs.Kept.{IsKept, IsCounted, ArePlaces, AreAnswers, given_places, opened_of, touched_of}
 use Rattle.hr_progress.proofs.Changed.{numbered_from, length_from, got_else, got_here, got_kept, map_changed}
 use Rattle.hr_progress.proofs.Numbers.{has_place, take_while_agree, filter_both, filter_same_test}
 use Rattle.hr_progress.proofs.Parts.{txn_seen}

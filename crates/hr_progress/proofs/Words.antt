@@ -1,13 +1,13 @@
 -- What is kept beside the record is what the record tells.
-use Rattle.std.proofs.Common.{◌≡◌, ℕ, ◌+◌, Bool, ◌||◌, ◌==◌, List, filter, map, length, refl, ap, sym, ◌∙◌, subst}
+use Rattle.std.proofs.Common.{◌≡◌, ℕ, ◌||◌, ◌==◌, filter, length, ap, sym, ◌∙◌}
 use Rattle.std.proofs.lemmas.List.{length-map}
 use Rattle.hr_base.specs.Lists.{one_to}
 use Rattle.hr_history.specs.Transactions.{is_open}
-use Rattle.hr_history.specs.View.{TxnState, Progress, Attempt}
+use Rattle.hr_history.specs.View.{TxnState, Attempt}
 use Rattle.hr_history.specs.Processed.{phase_in, attempt_in, is_logged_by, processed_in}
 use Rattle.hr_moves.specs.Kept.{open_in, touched_in}
 use Rattle.hr_progress.specs.declared.attempt.Told.{Told}
-use Rattle.hr_progress.specs.Plain.{PlainView, plain_txn_in, plain_attempt_in, plain_replica_in}
+use Rattle.hr_progress.specs.Plain.{PlainView, plain_attempt_in, plain_replica_in}
 use Rattle.hr_progress.specs.Seen.{answer_at, seen_txn, seen_plain}
 use Rattle.hr_progress.specs.Kept.{opened_of, touched_of, processed_of}
 use Rattle.hr_progress.proofs.Numbers.{filter_same_test, take_while_agree}

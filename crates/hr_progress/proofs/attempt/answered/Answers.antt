@@ -1,6 +1,5 @@
-use Rattle.std.proofs.Common.{Option, Some, None, length, unwrap_or, refl, ap, sym, ◌∙◌}
+use Rattle.std.proofs.Common.{Option, length, unwrap_or, ap, sym, ◌∙◌}
 use Rattle.std.specs.Option.{option_map}
-use Rattle.hr_progress.specs.declared.attempt.Attempt.{Attempt}
 use Rattle.hr_progress.specs.Plain.{PlainAttempt, plain_attempt, idle_attempt}
 use Rattle.hr_progress.proofs.Entries.{lookup_plain}
 use Rattle.hr_progress.proofs.attempt.answered.Goals as goal

@@ -1,4 +1,4 @@
-use Rattle.std.proofs.Common.{refl, ap, arith}
+use Rattle.std.proofs.Common.{arith}
 use Rattle.hr_progress.specs.Plain.{plain_progress, with_preempted}
 use Rattle.hr_progress.proofs.Changed.{set_changed}
 use Rattle.hr_progress.proofs.progress.preempt_at.Goals as goal

@@ -1,4 +1,4 @@
-use Rattle.std.proofs.Common.{map, refl, ap, sym, ◌∙◌, arith}
+use Rattle.std.proofs.Common.{map, ap, ◌∙◌, arith}
 use Rattle.hr_progress.specs.Plain.{plain_txn, plain_progress}
 use Rattle.hr_progress.specs.Kept.{recounted, restarted}
 use Rattle.hr_progress.proofs.Changed.{set_changed}

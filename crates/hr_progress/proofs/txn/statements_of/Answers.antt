@@ -1,4 +1,4 @@
-use Rattle.std.proofs.Common.{◌≡◌, ◌-◌, Some, None, Option, length, slice_get, unwrap_or, refl, ap, sym, ◌∙◌}
+use Rattle.std.proofs.Common.{◌-◌, Option, length, unwrap_or, refl, ap, sym, ◌∙◌}
 use Rattle.std.specs.Option.{option_map}
 use Rattle.std.proofs.lemmas.Option.{slice_get_read, slice_get_past}
 use Rattle.hr_progress.specs.declared.txn.TxnState.{TxnState}

@@ -1,5 +1,4 @@
 use Rattle.std.proofs.Common.{List, map, length, sym, ap, ◌∙◌}
-use Rattle.hr_history.specs.View.{View}
 use Rattle.hr_history.specs.Processed.{attempt_in}
 use Rattle.hr_progress.specs.declared.progress.Progress as code
 use Rattle.hr_progress.specs.Plain.{plain, plain_progress, plain_replica_in, plain_attempt_in}

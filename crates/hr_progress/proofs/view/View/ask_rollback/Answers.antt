@@ -1,5 +1,4 @@
-use Rattle.std.proofs.Common.{◌≡◌, ◌+◌, ◌≤◌, None, sym, ◌∙◌, ap, subst, refl, arith}
-use Rattle.hr_history.specs.declared.phase.Phase.{Phase}
+use Rattle.std.proofs.Common.{◌≡◌, None, sym, ◌∙◌, ap, subst, refl, arith}
 use Rattle.hr_history.specs.declared.phase.Phase.TheVariants as phase
 use Rattle.hr_history.specs.View.{View, TxnState}
 use Rattle.hr_moves.specs.Changes.{with_phase}
@@ -12,7 +11,7 @@ use Rattle.hr_progress.proofs.Sanes.{sane_after}
 use Rattle.hr_progress.specs.Plain.{PlainView, plain, to_phase}
 use Rattle.hr_progress.specs.Seen.{seen, seen_plain}
 use Rattle.hr_progress.specs.Kept.{IsKept, ArePlaces}
-use Rattle.hr_progress.proofs.Rests.{rest, seen_rest}
+use Rattle.hr_progress.proofs.Rests.{seen_rest}
 use Rattle.hr_progress.proofs.Txns.{with_end, seen_end, kept_end, places_end, closed, opened_plain}
 use Rattle.hr_progress.proofs.view.View.ask_rollback.Goals as goal
 

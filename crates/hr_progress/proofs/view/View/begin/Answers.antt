@@ -1,4 +1,4 @@
-use Rattle.std.proofs.Common.{◌≡◌, ◌+◌, ◌≤◌, ◌++◌, ◌∷◌, [], None, map, length, sym, ◌∙◌, ap, subst, refl, arith}
+use Rattle.std.proofs.Common.{◌≡◌, ◌+◌, ◌++◌, ◌∷◌, [], None, length, sym, ◌∙◌, ap, subst, refl, arith}
 use Rattle.hr_history.specs.declared.phase.Phase.TheVariants as phase
 use Rattle.hr_history.specs.View.{View}
 use Rattle.hr_moves.specs.Sane.{IsSane}
@@ -6,7 +6,7 @@ use Rattle.hr_moves.specs.Moves.{after_begin}
 use Rattle.hr_history.specs.declared.entry.Event.TheVariants as event
 use Rattle.hr_sane.proofs.MoveLaws.{moves}
 use Rattle.hr_progress.proofs.Sanes.{sane_after}
-use Rattle.hr_progress.specs.Plain.{PlainView, plain, plain_txn, begun}
+use Rattle.hr_progress.specs.Plain.{plain, plain_txn}
 use Rattle.hr_progress.specs.Seen.{seen, seen_plain}
 use Rattle.hr_progress.specs.Kept.{IsKept, ArePlaces}
 use Rattle.hr_progress.proofs.Begins.{with_begun, seen_begun, kept_begun, places_begun}

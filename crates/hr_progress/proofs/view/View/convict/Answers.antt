@@ -1,4 +1,4 @@
-use Rattle.std.proofs.Common.{◌≡◌, ◌+◌, ◌*◌, ◌≤◌, true, sym, ◌∙◌, ap, subst, refl, arith}
+use Rattle.std.proofs.Common.{◌≡◌, true, sym, ◌∙◌, ap, subst, refl}
 use Rattle.hr_history.specs.View.{View, Progress}
 use Rattle.hr_moves.specs.Sane.{IsSane, IsReplica}
 use Rattle.hr_moves.specs.Moves.{after_convict}
@@ -7,9 +7,9 @@ use Rattle.hr_history.specs.declared.evidence.Evidence.{Evidence}
 use Rattle.hr_history.specs.declared.evidence.Evidence.TheVariants as evidence
 use Rattle.hr_sane.proofs.MoveLaws.{moves}
 use Rattle.hr_progress.proofs.Sanes.{sane_after}
-use Rattle.hr_progress.specs.Plain.{PlainView, plain, to_convicted}
+use Rattle.hr_progress.specs.Plain.{plain, to_convicted}
 use Rattle.hr_progress.specs.Seen.{seen, seen_plain}
-use Rattle.hr_progress.specs.Kept.{IsKept, IsCounted, ArePlaces}
+use Rattle.hr_progress.specs.Kept.{IsKept, ArePlaces}
 use Rattle.hr_history.specs.Primary.{other_than}
 use Rattle.hr_progress.proofs.Replicas.{with_change, within, within_code, kept_change, places_change, seen_change}
 use Rattle.hr_progress.proofs.view.View.convict.Goals as goal

@@ -1,4 +1,4 @@
-use Rattle.std.proofs.Common.{◌≡◌, ◌+◌, ◌≤◌, ◌<◌, ◌++◌, ◌∷◌, [], List, ℕ, map, length, sym, ◌∙◌, ap, subst, refl, arith}
+use Rattle.std.proofs.Common.{◌≡◌, ◌+◌, List, map, sym, ◌∙◌, ap, subst, arith}
 use Rattle.hr_base.specs.Lists.{has}
 use Rattle.hr_history.specs.declared.phase.Phase.TheVariants as phase
 use Rattle.hr_history.specs.View.{View}
@@ -9,7 +9,7 @@ use Rattle.hr_moves.specs.Moves.{after_decide}
 use Rattle.hr_history.specs.declared.entry.Event.TheVariants as event
 use Rattle.hr_sane.proofs.MoveLaws.{moves}
 use Rattle.hr_progress.proofs.Sanes.{sane_after}
-use Rattle.hr_progress.specs.Plain.{PlainTxn, PlainView, plain, plain_txn, plain_progress, to_phase}
+use Rattle.hr_progress.specs.Plain.{PlainTxn, plain, plain_txn, to_phase}
 use Rattle.hr_progress.specs.Seen.{seen, seen_plain}
 use Rattle.hr_progress.specs.Kept.{IsKept, ArePlaces, NoneLess, recounted}
 use Rattle.hr_progress.proofs.Decides.{decided, txns_then, log_then, seen_decided, less_then, kept_decided, places_decided, is_opened}

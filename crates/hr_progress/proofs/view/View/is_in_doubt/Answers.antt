@@ -1,5 +1,5 @@
 use Rattle.std.proofs.Common.{List, map, sym, ap, ◌∙◌}
-use Rattle.hr_history.specs.View.{View, Progress}
+use Rattle.hr_history.specs.View.{Progress}
 use Rattle.hr_history.specs.Processed.{replica_in}
 use Rattle.hr_progress.specs.declared.progress.Progress as code
 use Rattle.hr_progress.specs.Plain.{plain, plain_progress, plain_replica_in}

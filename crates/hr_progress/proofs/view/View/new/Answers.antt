@@ -1,4 +1,4 @@
-use Rattle.std.proofs.Common.{◌≡◌, ◌+◌, ◌≤◌, None, Some, map, sym, ◌∙◌, ap, subst, arith}
+use Rattle.std.proofs.Common.{◌≡◌, None, Some, map, sym, ◌∙◌, ap, subst, arith}
 use Rattle.hr_progress.specs.Plain.{PlainView, plain, plain_txn}
 use Rattle.hr_progress.specs.Seen.{seen_plain}
 use Rattle.hr_progress.specs.Kept.{IsKept, ArePlaces, HaveGivenRoom}

@@ -1,10 +1,8 @@
-use Rattle.std.proofs.Common.{◌≡◌, Some, sym, ◌∙◌, ap, subst, refl}
+use Rattle.std.proofs.Common.{sym, ◌∙◌, ap, subst}
 use Rattle.hr_history.specs.declared.entry.Event.TheVariants as event
-use Rattle.hr_history.specs.View.{View}
 use Rattle.hr_moves.specs.Sane.{IsSane}
 use Rattle.hr_moves.specs.Moves.{after_new_primary}
 use Rattle.hr_sane.proofs.MoveLaws.{moves}
-use Rattle.hr_progress.specs.Seen.{seen}
 use Rattle.hr_progress.proofs.Sanes.{sane_after}
 use Rattle.hr_progress.proofs.view.View.new_primary.Goals as goal
 

@@ -1,5 +1,5 @@
 use Rattle.std.proofs.Common.{List, map, sym, ap, ◌∙◌}
-use Rattle.hr_history.specs.View.{View, TxnState}
+use Rattle.hr_history.specs.View.{TxnState}
 use Rattle.hr_history.specs.Processed.{txn_in}
 use Rattle.hr_progress.specs.declared.txn.TxnState as code
 use Rattle.hr_progress.specs.Plain.{plain, plain_txn, plain_txn_in}

@@ -1,13 +1,13 @@
-use Rattle.std.proofs.Common.{◌≡◌, ◌+◌, ◌*◌, ◌≤◌, true, sym, ◌∙◌, ap, subst, refl, arith}
-use Rattle.hr_history.specs.View.{View, Progress}
+use Rattle.std.proofs.Common.{◌≡◌, true, sym, ◌∙◌, ap, subst}
+use Rattle.hr_history.specs.View.{View}
 use Rattle.hr_moves.specs.Sane.{IsSane, IsReplica}
 use Rattle.hr_moves.specs.Moves.{after_preempt}
 use Rattle.hr_history.specs.declared.entry.Event.TheVariants as event
 use Rattle.hr_sane.proofs.MoveLaws.{moves}
 use Rattle.hr_progress.proofs.Sanes.{sane_after}
-use Rattle.hr_progress.specs.Plain.{PlainView, PlainProgress, plain, plain_replica_in, with_preempted}
+use Rattle.hr_progress.specs.Plain.{plain, plain_replica_in, with_preempted}
 use Rattle.hr_progress.specs.Seen.{seen, seen_plain}
-use Rattle.hr_progress.specs.Kept.{IsKept, IsCounted, ArePlaces}
+use Rattle.hr_progress.specs.Kept.{IsKept, ArePlaces}
 use Rattle.hr_moves.specs.Changes.{with_attempt}
 use Rattle.hr_history.specs.View.{Attempt}
 use Rattle.hr_progress.proofs.Replicas.{with_change, within, within_code, kept_change, places_change, seen_change}

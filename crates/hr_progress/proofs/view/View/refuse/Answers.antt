@@ -1,4 +1,4 @@
-use Rattle.std.proofs.Common.{◌≡◌, ◌+◌, ◌≤◌, sym, ◌∙◌, ap, subst, refl, arith}
+use Rattle.std.proofs.Common.{◌≡◌, sym, ◌∙◌, ap, subst, refl, arith}
 use Rattle.hr_history.specs.declared.phase.Phase.TheVariants as phase
 use Rattle.hr_history.specs.View.{View, TxnState}
 use Rattle.hr_moves.specs.Sane.{IsSane}
@@ -9,7 +9,7 @@ use Rattle.hr_history.specs.declared.cause.CauseAt.{CauseAt}
 use Rattle.hr_history.specs.declared.cause.CauseAt.TheVariants as cause
 use Rattle.hr_sane.proofs.MoveLaws.{moves}
 use Rattle.hr_progress.proofs.Sanes.{sane_after}
-use Rattle.hr_progress.specs.Plain.{PlainView, plain, to_phase}
+use Rattle.hr_progress.specs.Plain.{plain, to_phase}
 use Rattle.hr_progress.specs.Seen.{seen, seen_plain}
 use Rattle.hr_progress.specs.Kept.{IsKept, ArePlaces}
 use Rattle.hr_progress.proofs.Txns.{with_end, seen_end, kept_end, places_end, closed, opened_plain}

@@ -1,4 +1,4 @@
-use Rattle.std.proofs.Common.{◌≡◌, ◌+◌, ◌≤◌, ◌<◌, List, ℕ, None, map, length, sym, ◌∙◌, ap, subst, refl, arith}
+use Rattle.std.proofs.Common.{◌≡◌, ◌<◌, None, map, length, sym, ◌∙◌, ap, subst, refl, arith}
 use Rattle.hr_history.specs.View.{View}
 use Rattle.hr_moves.specs.Changes.{map_from, change_at, with_replica}
 use Rattle.hr_moves.specs.Sane.{IsSane, IsReplica}
@@ -6,7 +6,7 @@ use Rattle.hr_moves.specs.Moves.{restart, after_restart}
 use Rattle.hr_history.specs.declared.entry.Event.TheVariants as event
 use Rattle.hr_sane.proofs.MoveLaws.{moves}
 use Rattle.hr_progress.proofs.Sanes.{sane_after}
-use Rattle.hr_progress.specs.Plain.{PlainTxn, PlainView, plain, plain_txn, plain_replica_in, with_restart}
+use Rattle.hr_progress.specs.Plain.{PlainView, plain, plain_txn, plain_replica_in, with_restart}
 use Rattle.hr_progress.specs.Seen.{seen, seen_plain}
 use Rattle.hr_progress.specs.Kept.{IsKept, ArePlaces, IsLeast, restarted}
 use Rattle.hr_progress.proofs.Replicas.{with_change, within, within_code, kept_change, places_change, seen_change}

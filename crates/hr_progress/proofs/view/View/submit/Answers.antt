@@ -1,6 +1,4 @@
-use Rattle.std.proofs.Common.{◌≡◌, ◌+◌, ◌≤◌, None, sym, ◌∙◌, ap, subst, refl, arith}
-use Rattle.hr_history.specs.declared.phase.Phase.{Phase}
-use Rattle.hr_history.specs.declared.phase.Phase.TheVariants as phase
+use Rattle.std.proofs.Common.{◌≡◌, ◌+◌, None, sym, ◌∙◌, ap, subst, refl}
 use Rattle.hr_history.specs.View.{View, TxnState}
 use Rattle.hr_moves.specs.Changes.{with_txn}
 use Rattle.hr_moves.specs.Sane.{IsSane}
@@ -15,7 +13,7 @@ use Rattle.hr_progress.proofs.Sanes.{sane_after}
 use Rattle.hr_progress.specs.Plain.{PlainView, plain, with_statement}
 use Rattle.hr_progress.specs.Seen.{seen, seen_plain}
 use Rattle.hr_progress.specs.Kept.{IsKept, ArePlaces}
-use Rattle.hr_progress.proofs.Rests.{rest, seen_rest}
+use Rattle.hr_progress.proofs.Rests.{seen_rest}
 use Rattle.hr_progress.proofs.Txns.{with_open, seen_open, kept_open, places_open, closed, opened_plain}
 use Rattle.hr_progress.proofs.view.View.submit.Goals as goal
 
