@@ -51,7 +51,7 @@ impl<N: LockName> LockTable<N> {
     }
 
     /// At no moment do two transactions hold what conflicts.
-    pub fn is_apart(&self)
+    pub fn no_conflicts(&self)
         ensures { IsTrue (is_apart N.meets self.now.held.locks) }
     {
         let _locks = &self.locks;
