@@ -17,3 +17,4 @@ pub mod Lookups
 pub mod Rests
 pub mod Txns
 pub mod Words
+pub mod Stamps

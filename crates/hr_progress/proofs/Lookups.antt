@@ -4,6 +4,7 @@ use Rattle.std.specs.Prelude.{take_while}
 use Rattle.std.specs.Option.{option_map}
 use Rattle.std.proofs.lemmas.List.Sums.{take_while-cons}
 use Rattle.std.proofs.lemmas.Option.{slice_get_read, slice_get_past}
+use Rattle.hr_base.specs.Lists.{numbered}
 use Rattle.hr_progress.specs.declared.txn.TxnState.{TxnState}
 use Rattle.hr_progress.specs.declared.progress.Progress.{Progress}
 use Rattle.hr_progress.specs.Plain.{no_txn, idle_progress, plain_txn, plain_txn_in, plain_progress, plain_replica_in}
@@ -17,6 +18,10 @@ on_err (Err e) p = p
 pub txn_at : (txns : List TxnState) (t : ℕ) → (t ≡ 0 → ⊥) → plain_txn_in (map plain_txn txns) t ≡ unwrap_or (option_map plain_txn (slice_get txns (t - 1))) no_txn
 txn_at txns zero h = absurd (h refl)
 txn_at txns (suc n) h = let same : n ≡ suc n - 1 = omega arith in ap (λ o. unwrap_or o no_txn) (got_map plain_txn txns n) ∙ ap (λ i. unwrap_or (option_map plain_txn (slice_get txns i)) no_txn) same
+
+pub numbered_at : {X : Type 0} (xs : List X) (t : ℕ) → (t ≡ 0 → ⊥) → numbered xs t ≡ slice_get xs (t - 1)
+numbered_at xs zero h = absurd (h refl)
+numbered_at xs (suc n) h = let same : n ≡ suc n - 1 = omega arith in ap (slice_get xs) same
 
 -- one set anew that is seen as before
 pub set_same : {X Y : Type 0} (view : X → Y) (xs : List X) (i : ℕ) (x y : X) → i < length xs → x ≡ slice_index_or xs i x → view y ≡ view x → map view (slice_set xs i y) ≡ map view xs

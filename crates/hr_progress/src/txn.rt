@@ -1,6 +1,8 @@
 //! A transaction, as the view keeps it.
 ghost use Rattle.std.specs.Prelude.{◌≡◌, ◌≤◌, ◌<◌, ◌==◌, not, [], ◌∷◌, ◌++◌, length, filter, map, vec_len, OnOk, OnErr, IsTrue};
-ghost use Rattle.hr_base.specs.Lists.{has};
+ghost use Rattle.std.specs.Option.{option_map};
+ghost use Rattle.hr_base.specs.Lists.{has, numbered};
+ghost use Rattle.hr_progress.specs.declared.txn.Given.{Given};
 ghost use Rattle.hr_moves.specs.Changes.{map_from, change_at};
 ghost use Rattle.hr_progress.specs.Plain.{plain_txn, plain_txn_in, begun, to_phase, with_statement};
 ghost use Rattle.hr_progress.specs.Kept.{HaveGivenRoom};
@@ -52,6 +54,32 @@ pub fn statements_of(txns: &[TxnState], txn: TxnId) -> u32
     match txns.get((txn - 1) as usize) {
         Some(state) => state.statements,
         None => 0,
+    }
+}
+
+/// The length of the log when the answer to the statement with this index, from 1, was given, if it was.
+pub fn stamp_at(given: &[Given], index: u32) -> Option<u64>
+    ensures { result ≡ option_map (λ (g : Given). g.stamp) (numbered given.now index) }
+{
+    if index == 0 {
+        return None;
+    }
+    match given.get((index - 1) as usize) {
+        Some(given) => Some(given.stamp),
+        None => None,
+    }
+}
+
+/// The answers that were given to a transaction; of a number that none has, none.
+pub fn given_of(txns: &[TxnState], txn: TxnId) -> &[Given]
+    ensures { result.now ≡ (plain_txn_in (map plain_txn txns.now) txn).given }
+{
+    if txn == 0 {
+        return &[];
+    }
+    match txns.get((txn - 1) as usize) {
+        Some(state) => &state.given,
+        None => &[],
     }
 }
 

@@ -1,5 +1,8 @@
 //! What a view tells, as its record does.
 ghost use Rattle.std.specs.Prelude.{◌≡◌, length};
+ghost use Rattle.std.specs.Option.{option_map};
+ghost use Rattle.hr_base.specs.Lists.{numbered};
+ghost use Rattle.hr_history.specs.Given.{Given};
 ghost use Rattle.hr_history.specs.Processed as history;
 ghost use Rattle.hr_history.specs.Processed.{txn_in, phase_in, replica_in, answers_in, runs_in, processed_in};
 ghost use Rattle.hr_history.specs.Ranks.{is_before, rank_by, ranks_before};
@@ -10,7 +13,7 @@ use crate::progress::{
     answered_at, convicted_of, doubt_of, is_logged_by, lost_of, out_of, position_of, processed_of,
     touched_of,
 };
-use crate::txn::{phase_of, statements_of};
+use crate::txn::{given_of, phase_of, stamp_at, statements_of};
 use crate::view::View;
 use hr_engine::TxnId;
 use hr_history::{Job, Phase};
@@ -93,6 +96,13 @@ impl View {
         ensures { result ≡ (txn_in self.now txn).statements }
     {
         statements_of(&self.txns, txn)
+    }
+
+    /// The length of the log when the answer to a transaction's statement with this index, from 1, was given, if it was.
+    pub fn stamp(&self, txn: TxnId, index: u32) -> Option<u64>
+        ensures { result ≡ option_map (λ (g : Given). g.stamp) (numbered (txn_in self.now txn).given index) }
+    {
+        stamp_at(given_of(&self.txns, txn), index)
     }
 
     /// How many statements of a transaction are answered in its attempt at a replica.
