@@ -1,5 +1,5 @@
 -- What comes of one more at the end of a list, and of the rest of a list behind its front.
-use Rattle.std.proofs.Common.{◌≡◌, ◌+◌, ◌≤◌, ◌<◌, suc, min, List, [], ◌∷◌, ◌++◌, length, Result, Ok, Err, refl, ap, sym, ◌∙◌, arith, length-append}
+use Rattle.std.proofs.Common.{◌≡◌, List, [], ◌∷◌, ◌++◌, Result, Ok, Err, refl, ap, sym, ◌∙◌}
 use Rattle.std.proofs.lemmas.List.{append_assoc}
 use Rattle.hr_rel.specs.declared.answer.RunError.{RunError}
 use Rattle.hr_meaning.specs.Value.{and_then, each}

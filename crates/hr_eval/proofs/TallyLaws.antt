@@ -1,5 +1,5 @@
 -- A tally is what its item shows, and one more step is that of one more row or pair.
-use Rattle.std.proofs.Common.{◌≡◌, ℤ, pos, ◌+ℤ◌, ◌+◌, Bool, true, false, not, if◌then◌else◌, Option, Some, None, unwrap_or, List, [], ◌∷◌, ◌++◌, length, map, filter, Result, Ok, Err, refl, ap, sym, ◌∙◌, subst, arith, length-append}
+use Rattle.std.proofs.Common.{◌≡◌, pos, ◌+ℤ◌, not, Some, unwrap_or, List, [], ◌∷◌, ◌++◌, length, map, filter, Ok, refl, ap, sym, ◌∙◌, length-append}
 use Rattle.std.proofs.Math.IntN.{+ℤ_assoc, +ℤ_comm}
 use Rattle.std.proofs.lemmas.List.{append-nil, map-append}
 use Rattle.std.proofs.lemmas.List.Elements.{filter-append}
@@ -14,7 +14,6 @@ use Rattle.hr_meaning.specs.Truth.{Tuple, column_value}
 use Rattle.hr_meaning.specs.Value.{value_of}
 use Rattle.hr_meaning.specs.Select.{values_of, number_in, exact_sum, sum_value, lesser, greater, picked, first_value, item_value}
 use Rattle.hr_eval.proofs.Picks.{lesser_associates, greater_associates}
-use Rattle.hr_eval.specs.declared.tally.Tally.{Tally}
 use Rattle.hr_eval.specs.declared.tally.Tally.TheVariants as tally
 use Rattle.hr_eval.specs.Tallies.{some_sum, some_picked, on_first, tally_of, unless_null, sum_step, pick_step, tally_step, sum_shown, tally_shown}
 

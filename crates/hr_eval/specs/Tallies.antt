@@ -1,6 +1,5 @@
 -- What is kept of the rows or pairs so far for an item of a SELECT with aggregates.
 use Rattle.std.specs.Prelude.{ℤ, pos, ◌+ℤ◌, if◌then◌else◌, Option, Some, None, unwrap_or, List, [], ◌∷◌, length, Result, Ok}
-use Rattle.std.specs.Option.{option_map}
 use Rattle.hr_rel.specs.declared.value.Value.{Value}
 use Rattle.hr_rel.specs.declared.value.Value.TheVariants.{Null, Int}
 use Rattle.hr_rel.specs.declared.answer.RunError.{RunError}
