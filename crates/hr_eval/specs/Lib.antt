@@ -1,0 +1,4 @@
+pub mod Tuples
+pub mod Numbers
+pub mod SoFar
+pub mod Tallies
