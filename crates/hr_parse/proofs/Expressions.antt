@@ -1,44 +1,28 @@
 -- The readers of expressions read what the grammar says.
-use Rattle.std.proofs.Common.{◌≡◌, ℕ, zero, suc, Bool, false, List, [], ◌∷◌, ◌++◌, refl, arith, append_assoc}
-use Rattle.hr_parse.specs.declared.ast.LitAst.TheVariants as lit
-use Rattle.hr_parse.specs.declared.ast.OperandAst.TheVariants as operand_of
+use Rattle.std.proofs.Common.{◌≡◌, ◌≤◌, ℕ, zero, suc, ◌+◌, ◌*◌, true, false, List, [], ◌∷◌, ◌++◌, refl, arith}
 use Rattle.hr_parse.specs.declared.ast.ExprAst.{ExprAst}
-use Rattle.hr_parse.specs.declared.word.Mark.{Mark}
+use Rattle.hr_parse.specs.declared.ast.OperandAst.{OperandAst}
 use Rattle.hr_parse.specs.declared.word.Mark.TheVariants as m
-use Rattle.hr_lex.specs.declared.token.Keyword.TheVariants as kw
-use Rattle.hr_parse.specs.declared.word.Sign.TheVariants as sign_of
+use Rattle.hr_parse.specs.declared.word.Sign.TheVariants as sg
 use Rattle.hr_parse.specs.declared.word.Lexeme.{Lexeme}
-use Rattle.hr_parse.specs.Words.{mark, same_mark}
 use Rattle.hr_parse.specs.Trees.{sum, difference, product, placed, simple}
-use Rattle.hr_parse.specs.Readers.{sees, factor, term, term_behind, expr, expr_behind}
-use Rattle.hr_parse.specs.Grammar.{IsLiteral, IsOperand, IsFactor, IsTerm, TimesMore, IsExpr, PlusMore}
-use Rattle.hr_parse.proofs.Rules.{Stops, Rule, Seq, Map, Done, IsMark, Ahead, rule_iso, rule_seq, rule_map, rule_pure, rule_expect, rule_weak, rule_ahead}
-use Rattle.hr_parse.proofs.Stops.{any, stops_here, stops_rest, firm_mark, firm_map}
-use Rattle.hr_parse.proofs.Operands.{Fits, rule_operand, rule_refuse}
-use Rattle.hr_parse.proofs.Conditions.{operand_unseen}
+use Rattle.hr_parse.specs.Grammar.{Language, IsMark, Gives, Seq, Map, Either, operand, IsFactor, IsTerm, TimesMore, IsExpr, PlusMore, read_factor, read_term, term_behind, read_expr, expr_behind}
+use Rattle.hr_parse.proofs.Shapes.{kind, only, Shape, a_mark, nothing, ◌▸◌, ◌∥◌, Begins, begins_both, among_second}
+use Rattle.hr_parse.proofs.Rules.{Rule, rule_stops, rule_iso, rule_weak, rule_seq, rule_pure, rule_map, rule_key, rule_case, rule_refuse, less}
+use Rattle.hr_parse.proofs.Operands.{Fits, parts, operands, rule_operand}
 
-abbrev dots : Lexeme → Bool
-dots = any ((m.Sign sign_of.Dot) ∷ [])
+-- ---- as parts put together
 
-abbrev stars : Lexeme → Bool
-stars = any ((m.Sign sign_of.Star) ∷ (m.Sign sign_of.Dot) ∷ [])
-
-abbrev pub pluses : Lexeme → Bool
-pluses = any ((m.Sign sign_of.Plus) ∷ (m.Sign sign_of.Minus) ∷ (m.Sign sign_of.Star) ∷ (m.Sign sign_of.Dot) ∷ [])
-
-abbrev Factor : List Lexeme → ExprAst → Type 0
-Factor = Ahead (m.Sign sign_of.LeftParen) (λ at. Seq IsExpr (λ inner. Map (λ _. placed inner at) (IsMark (m.Sign sign_of.RightParen)))) (Map simple IsOperand)
+abbrev Factor : Language ExprAst
+Factor = Either (Seq (IsMark (m.Sign sg.LeftParen)) (λ at. Seq IsExpr (λ inner. Seq (IsMark (m.Sign sg.RightParen)) (λ _. Gives (placed inner at))))) (Map simple operand.gives)
 
 to_factor : (u : List Lexeme) (a : ExprAst) → Factor u a → IsFactor u a
-to_factor u a (Ahead.this p (Seq.seq l (Map.map (IsMark.the q)))) = IsFactor.parens p q l
-to_factor u a (Ahead.other (Map.map l)) = IsFactor.operand l
+to_factor u a (Either.in_left (Seq.seq (IsMark.the p) (Seq.seq l (Seq.seq (IsMark.the q) Gives.nothing)))) = IsFactor.parens p q l
+to_factor u a (Either.in_right (Map.map {a = o} l)) = IsFactor.plain o l
 
 of_factor : (u : List Lexeme) (a : ExprAst) → IsFactor u a → Factor u a
-of_factor u a (IsFactor.parens p q l) = Ahead.this p (Seq.seq l (Map.map (IsMark.the q)))
-of_factor u a (IsFactor.operand l) = Ahead.other (Map.map l)
-
-simple_unseen : (k : Mark) → same_mark k (m.Sign sign_of.Minus) ≡ false → same_mark k (m.Keyword kw.Null) ≡ false → (u : List Lexeme) (a : ExprAst) (t : List Lexeme) → Map simple IsOperand u a → sees k (u ++ t) ≡ false
-simple_unseen k e h w b t (Map.map {u} {a} l) = operand_unseen k e h u a t l
+of_factor u a (IsFactor.parens p q l) = Either.in_left (Seq.seq (IsMark.the p) (Seq.seq l (Seq.seq (IsMark.the q) Gives.nothing)))
+of_factor u a (IsFactor.plain o l) = Either.in_right (Map.map {a = o} l)
 
 to_term : (u : List Lexeme) (a : ExprAst) → Seq IsFactor TimesMore u a → IsTerm u a
 to_term u a (Seq.seq l k) = IsTerm.term l k
@@ -46,16 +30,16 @@ to_term u a (Seq.seq l k) = IsTerm.term l k
 of_term : (u : List Lexeme) (a : ExprAst) → IsTerm u a → Seq IsFactor TimesMore u a
 of_term u a (IsTerm.term l k) = Seq.seq l k
 
-abbrev Times : ExprAst → List Lexeme → ExprAst → Type 0
-Times left = Ahead (m.Sign sign_of.Star) (λ _. Seq IsFactor (λ right. TimesMore (product left right))) (Done left)
+abbrev Times : ExprAst → Language ExprAst
+Times left = Either (Seq (IsMark (m.Sign sg.Star)) (λ _. Seq IsFactor (λ right. TimesMore (product left right)))) (Gives left)
 
 to_times : (left : ExprAst) (u : List Lexeme) (a : ExprAst) → Times left u a → TimesMore left u a
-to_times left u a (Ahead.this p (Seq.seq l k)) = TimesMore.times_more p l k
-to_times left u a (Ahead.other Done.done) = TimesMore.times_done
+to_times left u a (Either.in_left (Seq.seq (IsMark.the p) (Seq.seq l k))) = TimesMore.times_more p l k
+to_times left u a (Either.in_right Gives.nothing) = TimesMore.times_done
 
 of_times : (left : ExprAst) (u : List Lexeme) (a : ExprAst) → TimesMore left u a → Times left u a
-of_times left u a (TimesMore.times_more p l k) = Ahead.this p (Seq.seq l k)
-of_times left u a TimesMore.times_done = Ahead.other Done.done
+of_times left u a (TimesMore.times_more p l k) = Either.in_left (Seq.seq (IsMark.the p) (Seq.seq l k))
+of_times left u a TimesMore.times_done = Either.in_right Gives.nothing
 
 to_expr : (u : List Lexeme) (a : ExprAst) → Seq IsTerm PlusMore u a → IsExpr u a
 to_expr u a (Seq.seq l k) = IsExpr.expr l k
@@ -63,120 +47,110 @@ to_expr u a (Seq.seq l k) = IsExpr.expr l k
 of_expr : (u : List Lexeme) (a : ExprAst) → IsExpr u a → Seq IsTerm PlusMore u a
 of_expr u a (IsExpr.expr l k) = Seq.seq l k
 
-abbrev Minus : ExprAst → List Lexeme → ExprAst → Type 0
-Minus left = Ahead (m.Sign sign_of.Minus) (λ _. Seq IsTerm (λ right. PlusMore (difference left right))) (Done left)
-
-abbrev Plus : ExprAst → List Lexeme → ExprAst → Type 0
-Plus left = Ahead (m.Sign sign_of.Plus) (λ _. Seq IsTerm (λ right. PlusMore (sum left right))) (Minus left)
+abbrev Plus : ExprAst → Language ExprAst
+Plus left = Either (Seq (IsMark (m.Sign sg.Plus)) (λ _. Seq IsTerm (λ right. PlusMore (sum left right))))
+    (Either (Seq (IsMark (m.Sign sg.Minus)) (λ _. Seq IsTerm (λ right. PlusMore (difference left right)))) (Gives left))
 
 to_plus : (left : ExprAst) (u : List Lexeme) (a : ExprAst) → Plus left u a → PlusMore left u a
-to_plus left u a (Ahead.this p (Seq.seq l k)) = PlusMore.plus_more p l k
-to_plus left u a (Ahead.other (Ahead.this p (Seq.seq l k))) = PlusMore.minus_more p l k
-to_plus left u a (Ahead.other (Ahead.other Done.done)) = PlusMore.plus_done
+to_plus left u a (Either.in_left (Seq.seq (IsMark.the p) (Seq.seq l k))) = PlusMore.plus_more p l k
+to_plus left u a (Either.in_right (Either.in_left (Seq.seq (IsMark.the p) (Seq.seq l k)))) = PlusMore.minus_more p l k
+to_plus left u a (Either.in_right (Either.in_right Gives.nothing)) = PlusMore.plus_done
 
 of_plus : (left : ExprAst) (u : List Lexeme) (a : ExprAst) → PlusMore left u a → Plus left u a
-of_plus left u a (PlusMore.plus_more p l k) = Ahead.this p (Seq.seq l k)
-of_plus left u a (PlusMore.minus_more p l k) = Ahead.other (Ahead.this p (Seq.seq l k))
-of_plus left u a PlusMore.plus_done = Ahead.other (Ahead.other Done.done)
+of_plus left u a (PlusMore.plus_more p l k) = Either.in_left (Seq.seq (IsMark.the p) (Seq.seq l k))
+of_plus left u a (PlusMore.minus_more p l k) = Either.in_right (Either.in_left (Seq.seq (IsMark.the p) (Seq.seq l k)))
+of_plus left u a PlusMore.plus_done = Either.in_right (Either.in_right Gives.nothing)
 
-times_stops : (left : ExprAst) (v : List Lexeme) (b : ExprAst) (t : List Lexeme) → TimesMore left v b → Stops stars t → Stops dots (v ++ t)
-unfolding same_mark
-times_stops left v b t TimesMore.times_done st = stops_rest (m.Sign sign_of.Star) ((m.Sign sign_of.Dot) ∷ []) t st
-times_stops left v b t (TimesMore.times_more p l k) st = refl
+-- ---- how they begin and end
 
-plus_stops : (left : ExprAst) (v : List Lexeme) (b : ExprAst) (t : List Lexeme) → PlusMore left v b → Stops pluses t → Stops stars (v ++ t)
-unfolding same_mark
-plus_stops left v b t PlusMore.plus_done st = stops_rest (m.Sign sign_of.Minus) ((m.Sign sign_of.Star) ∷ (m.Sign sign_of.Dot) ∷ []) t (stops_rest (m.Sign sign_of.Plus) ((m.Sign sign_of.Minus) ∷ (m.Sign sign_of.Star) ∷ (m.Sign sign_of.Dot) ∷ []) t st)
-plus_stops left v b t (PlusMore.plus_more p l k) st = refl
-plus_stops left v b t (PlusMore.minus_more p l k) st = refl
+abbrev factors : Shape
+factors = record { starts = only (m.Sign sg.LeftParen) ++ operands.starts; empty = false; stops = operands.stops }
 
-done_unseen : (k : Mark) (c : Lexeme → Bool) (b : ExprAst) → ((t : List Lexeme) → Stops c t → sees k t ≡ false)
-    → (u : List Lexeme) (a : ExprAst) (t : List Lexeme) → Done b u a → Stops c t → sees k (u ++ t) ≡ false
-done_unseen k c b h u a t Done.done st = h t st
+abbrev times : Shape
+times = record { starts = only (m.Sign sg.Star); empty = true; stops = only (m.Sign sg.Star) ++ factors.stops }
 
-minus_unseen : (left : ExprAst) (u : List Lexeme) (a : ExprAst) (t : List Lexeme) → Minus left u a → Stops pluses t → sees (m.Sign sign_of.Plus) (u ++ t) ≡ false
-unfolding same_mark
-minus_unseen left u a t (Ahead.this p l) st = refl
-minus_unseen left u a t (Ahead.other Done.done) st = stops_here (m.Sign sign_of.Plus) ((m.Sign sign_of.Minus) ∷ (m.Sign sign_of.Star) ∷ (m.Sign sign_of.Dot) ∷ []) t st
+abbrev pluses : Shape
+pluses = record { starts = only (m.Sign sg.Plus) ++ only (m.Sign sg.Minus); empty = true; stops = only (m.Sign sg.Plus) ++ (only (m.Sign sg.Minus) ++ (factors ▸ times).stops) }
 
--- the shortest expression
-a_factor : IsFactor (mark (m.Keyword kw.Null) 0 ∷ []) (simple (operand_of.Literal (record { value = lit.Null; at = 0 })))
-a_factor = IsFactor.operand (IsOperand.literal (IsLiteral.null 0))
+abbrev pub exprs : Shape
+exprs = (factors ▸ times) ▸ pluses
 
-a_term : IsTerm (mark (m.Keyword kw.Null) 0 ∷ []) (simple (operand_of.Literal (record { value = lit.Null; at = 0 })))
-a_term = IsTerm.term a_factor TimesMore.times_done
+operand_begins : (u : List Lexeme) → Begins operands u → Begins factors u
+operand_begins [] b = absurd (cc)
+operand_begins (x ∷ u) b = among_second (only (m.Sign sg.LeftParen)) operands.starts (kind x.word) b
 
-an_expr : IsExpr (mark (m.Keyword kw.Null) 0 ∷ []) (simple (operand_of.Literal (record { value = lit.Null; at = 0 })))
-an_expr = IsExpr.expr a_term PlusMore.plus_done
+factor_begins : (u : List Lexeme) (a : ExprAst) → IsFactor u a → Begins factors u
+factor_begins u a (IsFactor.parens p q l) = refl
+factor_begins u a (IsFactor.plain o l) = operand_begins u ((rule_operand (parts 0 0)).begins u o l)
 
-rule_factors : (n : ℕ) → Rule (expr n) IsExpr pluses (Fits 6 n) → Rule (factor (suc n)) IsFactor dots (Fits 4 (suc n))
-unfolding factor same_mark
-rule_factors n whole = rule_iso to_factor of_factor
-    (rule_ahead (λ at. rule_seq (Fits 7 n) whole (λ inner. rule_map (λ _. placed inner at) (rule_expect {c = dots} {P = Fits 7 n} (m.Sign sign_of.RightParen)))
-    (λ i j h. (omega (arith, h), omega (arith, h)))
-    (λ inner v b t l st. firm_map pluses (λ _. placed inner at) (IsMark (m.Sign sign_of.RightParen)) (firm_mark pluses (m.Sign sign_of.RightParen) (λ p. refl)) v b t l))
-    (rule_weak dots (Fits 4 (suc n)) (λ t st. st) (λ i h. omega (arith, h)) (rule_map simple (rule_operand n)))
-    (λ i h. omega (arith, h)) (λ u a t l st. simple_unseen (m.Sign sign_of.LeftParen) refl refl u a t l))
+times_begins : (left : ExprAst) (u : List Lexeme) (a : ExprAst) → TimesMore left u a → Begins times u
+times_begins left u a (TimesMore.times_more p l k) = refl
+times_begins left u a TimesMore.times_done = refl
 
-rule_terms : (n : ℕ) → Rule (factor n) IsFactor dots (Fits 4 n) → ((left : ExprAst) → Rule (term_behind n left) (TimesMore left) stars (Fits 1 n)) → Rule (term (suc n)) IsTerm stars (Fits 5 (suc n))
-unfolding factor
-rule_terms n first behind = rule_iso to_term of_term
-    (rule_seq (Fits 5 (suc n)) first behind (λ i j h. (omega (arith, h), omega (arith, h))) times_stops)
+term_begins : (u : List Lexeme) (a : ExprAst) → IsTerm u a → Begins (factors ▸ times) u
+term_begins w b (IsTerm.term {u} {v} {a} l k) = begins_both factors times u v (factor_begins u a l) (times_begins a v b k)
 
-rule_times : (n : ℕ) → Rule (factor n) IsFactor dots (Fits 4 n) → ((left : ExprAst) → Rule (term_behind n left) (TimesMore left) stars (Fits 1 n))
-    → (left : ExprAst) → Rule (term_behind (suc n) left) (TimesMore left) stars (Fits 1 (suc n))
-unfolding factor
-rule_times n first behind left = rule_iso (to_times left) (of_times left)
-    (rule_ahead (λ _. rule_seq (Fits 4 n) first (λ right. behind (product left right)) (λ i j h. (omega (arith, h), omega (arith, h))) (λ right v b t l st. times_stops (product left right) v b t l st))
-    (rule_pure left) (λ i h. omega (arith, h)) (done_unseen (m.Sign sign_of.Star) stars left (stops_here (m.Sign sign_of.Star) ((m.Sign sign_of.Dot) ∷ []))))
+plus_begins : (left : ExprAst) (u : List Lexeme) (a : ExprAst) → PlusMore left u a → Begins pluses u
+plus_begins left u a (PlusMore.plus_more p l k) = refl
+plus_begins left u a (PlusMore.minus_more p l k) = refl
+plus_begins left u a PlusMore.plus_done = refl
 
-rule_exprs : (n : ℕ) → Rule (term n) IsTerm stars (Fits 5 n) → ((left : ExprAst) → Rule (expr_behind n left) (PlusMore left) pluses (Fits 2 n)) → Rule (expr (suc n)) IsExpr pluses (Fits 6 (suc n))
-unfolding factor
-rule_exprs n first behind = rule_iso to_expr of_expr
-    (rule_seq (Fits 6 (suc n)) first behind (λ i j h. (omega (arith, h), omega (arith, h))) plus_stops)
+expr_begins : (u : List Lexeme) (a : ExprAst) → IsExpr u a → Begins exprs u
+expr_begins w b (IsExpr.expr {u} {v} {a} l k) = begins_both (factors ▸ times) pluses u v (term_begins u a l) (plus_begins a v b k)
 
-rule_pluses : (n : ℕ) → Rule (term n) IsTerm stars (Fits 5 n) → ((left : ExprAst) → Rule (expr_behind n left) (PlusMore left) pluses (Fits 2 n))
-    → (left : ExprAst) → Rule (expr_behind (suc n) left) (PlusMore left) pluses (Fits 2 (suc n))
-unfolding factor
-rule_pluses n first behind left = rule_iso (to_plus left) (of_plus left)
-    (rule_ahead (λ _. rule_seq (Fits 5 n) first (λ right. behind (sum left right)) (λ i j h. (omega (arith, h), omega (arith, h))) (λ right v b t l st. plus_stops (sum left right) v b t l st))
-    (rule_ahead (λ _. rule_seq (Fits 5 n) first (λ right. behind (difference left right)) (λ i j h. (omega (arith, h), omega (arith, h))) (λ right v b t l st. plus_stops (difference left right) v b t l st))
-    (rule_pure left) (λ i h. omega (arith, h))
-    (done_unseen (m.Sign sign_of.Minus) pluses left (λ t st. stops_here (m.Sign sign_of.Minus) ((m.Sign sign_of.Star) ∷ (m.Sign sign_of.Dot) ∷ []) t (stops_rest (m.Sign sign_of.Plus) ((m.Sign sign_of.Minus) ∷ (m.Sign sign_of.Star) ∷ (m.Sign sign_of.Dot) ∷ []) t st))))
-    (λ i h. omega (arith, h)) (λ u a t l st. minus_unseen left u a t l st))
+-- ---- their readers
 
 record Depth (n : ℕ) : Type 0 where
-  pub factors : Rule (factor n) IsFactor dots (Fits 4 n)
-  pub terms : Rule (term n) IsTerm stars (Fits 5 n)
-  pub times : (left : ExprAst) → Rule (term_behind n left) (TimesMore left) stars (Fits 1 n)
-  pub exprs : Rule (expr n) IsExpr pluses (Fits 6 n)
-  pub more : (left : ExprAst) → Rule (expr_behind n left) (PlusMore left) pluses (Fits 2 n)
+  pub factor : Rule (read_factor n) IsFactor factors (Fits 4 n)
+  pub term : Rule (read_term n) IsTerm (factors ▸ times) (Fits 5 n)
+  pub more_times : (left : ExprAst) → Rule (term_behind n left) (TimesMore left) times (Fits 1 n)
+  pub expr : Rule (read_expr n) IsExpr exprs (Fits 6 n)
+  pub more_plus : (left : ExprAst) → Rule (expr_behind n left) (PlusMore left) pluses (Fits 2 n)
+
+rule_factor : (n : ℕ) → Depth n → Rule (read_factor (suc n)) IsFactor factors (Fits 4 (suc n))
+unfolding read_factor
+rule_factor n d = rule_stops factors refl refl refl (rule_iso to_factor of_factor
+    (rule_case {P = Fits 4 (suc n)} {Q = Fits 7 n} (m.Sign sg.LeftParen) (λ i h. omega (arith, h))
+    (λ at. rule_seq (parts 7 n) (rule_weak (Fits 7 n) (λ i h. omega (arith, h)) d.expr) (λ inner. rule_key (m.Sign sg.RightParen) (less (parts 7 n)) (λ _. rule_pure (placed inner at))) refl)
+    (rule_map simple (rule_operand (parts 4 (suc n)))) refl))
+
+rule_term : (n : ℕ) → Depth n → Rule (read_term (suc n)) IsTerm (factors ▸ times) (Fits 5 (suc n))
+unfolding read_factor
+rule_term n d = rule_iso to_term of_term
+    (rule_seq (parts 5 (suc n)) (rule_weak (Fits 5 (suc n)) (λ i h. omega (arith, h)) d.factor) (λ left. rule_weak (Fits 5 (suc n)) (λ i h. omega (arith, h)) (d.more_times left)) refl)
+
+rule_times : (n : ℕ) → Depth n → (left : ExprAst) → Rule (term_behind (suc n) left) (TimesMore left) times (Fits 1 (suc n))
+unfolding read_factor
+rule_times n d left = rule_stops times refl refl refl (rule_iso (to_times left) (of_times left)
+    (rule_case {P = Fits 1 (suc n)} {Q = Fits 4 n} (m.Sign sg.Star) (λ i h. omega (arith, h))
+    (λ _. rule_seq (parts 4 n) d.factor (λ right. rule_weak (Fits 4 n) (λ i h. omega (arith, h)) (d.more_times (product left right))) refl) (rule_pure left) refl))
+
+rule_expr : (n : ℕ) → Depth n → Rule (read_expr (suc n)) IsExpr exprs (Fits 6 (suc n))
+unfolding read_factor
+rule_expr n d = rule_iso to_expr of_expr
+    (rule_seq (parts 6 (suc n)) (rule_weak (Fits 6 (suc n)) (λ i h. omega (arith, h)) d.term) (λ left. rule_weak (Fits 6 (suc n)) (λ i h. omega (arith, h)) (d.more_plus left)) refl)
+
+rule_plus : (n : ℕ) → Depth n → (left : ExprAst) → Rule (expr_behind (suc n) left) (PlusMore left) pluses (Fits 2 (suc n))
+unfolding read_factor
+rule_plus n d left = rule_stops pluses refl refl refl (rule_iso (to_plus left) (of_plus left)
+    (rule_case {P = Fits 2 (suc n)} {Q = Fits 5 n} (m.Sign sg.Plus) (λ i h. omega (arith, h))
+    (λ _. rule_seq (parts 5 n) d.term (λ right. rule_weak (Fits 5 n) (λ i h. omega (arith, h)) (d.more_plus (sum left right))) refl)
+    (rule_case {P = Fits 2 (suc n)} {Q = Fits 5 n} (m.Sign sg.Minus) (λ i h. omega (arith, h))
+    (λ _. rule_seq (parts 5 n) d.term (λ right. rule_weak (Fits 5 n) (λ i h. omega (arith, h)) (d.more_plus (difference left right))) refl) (rule_pure left) refl) refl))
 
 at_depth : (n : ℕ) → Depth n
-unfolding factor
-at_depth zero = record {
-  factors = rule_refuse _ _ a_factor (λ i h. omega (arith, h));
-  terms = rule_refuse _ _ a_term (λ i h. omega (arith, h));
-  times = λ left. rule_refuse _ _ TimesMore.times_done (λ i h. omega (arith, h));
-  exprs = rule_refuse _ _ an_expr (λ i h. omega (arith, h));
-  more = λ left. rule_refuse _ _ PlusMore.plus_done (λ i h. omega (arith, h));
-}
-at_depth (suc n) =
-    let d : Depth n = at_depth n in
+unfolding read_factor
+at_depth zero =
+    let factor = IsFactor.plain (rule_operand (parts 0 0)).tree (rule_operand (parts 0 0)).some in
+    let term = IsTerm.term factor TimesMore.times_done in
     record {
-      factors = rule_factors n d.exprs;
-      terms = rule_terms n d.factors d.times;
-      times = rule_times n d.factors d.times;
-      exprs = rule_exprs n d.terms d.more;
-      more = rule_pluses n d.terms d.more;
+      factor = rule_refuse _ _ factor factor_begins (λ i h. omega (arith, h));
+      term = rule_refuse _ _ term term_begins (λ i h. omega (arith, h));
+      more_times = λ left. rule_refuse _ _ TimesMore.times_done (times_begins left) (λ i h. omega (arith, h));
+      expr = rule_refuse _ _ (IsExpr.expr term PlusMore.plus_done) expr_begins (λ i h. omega (arith, h));
+      more_plus = λ left. rule_refuse _ _ PlusMore.plus_done (plus_begins left) (λ i h. omega (arith, h));
     }
+at_depth (suc n) = let d : Depth n = at_depth n in record { factor = rule_factor n d; term = rule_term n d; more_times = rule_times n d; expr = rule_expr n d; more_plus = rule_plus n d }
 
-pub rule_expr : (n : ℕ) → Rule (expr n) IsExpr (any ((m.Sign sign_of.Plus) ∷ (m.Sign sign_of.Minus) ∷ (m.Sign sign_of.Star) ∷ (m.Sign sign_of.Dot) ∷ [])) (Fits 6 n)
-rule_expr n = (at_depth n).exprs
-
--- an expression begins with an operand or a parenthesis
-pub expr_unseen : (k : Mark) → same_mark k (m.Sign sign_of.Minus) ≡ false → same_mark k (m.Keyword kw.Null) ≡ false → same_mark k (m.Sign sign_of.LeftParen) ≡ false
-    → (u : List Lexeme) (a : ExprAst) (t : List Lexeme) → IsExpr u a → sees k (u ++ t) ≡ false
-expr_unseen k e h l w b t (IsExpr.expr {v = y} (IsTerm.term {v = x} (IsFactor.operand {u} {a} o) times) plus) =
-    rw (append_assoc (u ++ x) y t, append_assoc u x (y ++ t)) (operand_unseen k e h u a (x ++ (y ++ t)) o)
-expr_unseen k e h l w b t (IsExpr.expr (IsTerm.term (IsFactor.parens p q o) times) plus) = l
+pub rule_expression : (n : ℕ) → Rule (read_expr n) IsExpr exprs (Fits 6 n)
+rule_expression n = (at_depth n).expr

@@ -1,6 +1,6 @@
 pub mod Marks
+pub mod Shapes
 pub mod Rules
-pub mod Stops
 pub mod Operands
 pub mod Conditions
 pub mod Expressions

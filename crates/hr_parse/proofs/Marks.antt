@@ -15,7 +15,7 @@ unfolding same_mark
 mark_self (m.Keyword a) = true_same keywords.the_type a a refl
 mark_self (m.Sign a) = true_same signs.the_type a a refl
 
-same : (a b : Mark) → same_mark a b ≡ true → a ≡ b
+pub same : (a b : Mark) → same_mark a b ≡ true → a ≡ b
 unfolding same_mark
 same (m.Keyword a) (m.Keyword b) e = ap m.Keyword (same_true keywords.the_type (search rules) a b e)
 same (m.Sign a) (m.Sign b) e = ap m.Sign (same_true signs.the_type (search rules) a b e)

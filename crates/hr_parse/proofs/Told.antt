@@ -10,6 +10,7 @@ use Rattle.hr_parse.specs.declared.parsing.ParseError.TheVariants as e
 use Rattle.hr_parse.specs.declared.word.Lexeme.{Lexeme}
 use Rattle.hr_parse.specs.Readers.{Outcome, Reader, Reads, alone}
 use Rattle.hr_parse.specs.Parse.{Begins, Refused, error, depth_for, moved, told, settled}
+use Rattle.hr_parse.proofs.Shapes.{Shape}
 use Rattle.hr_parse.proofs.Rules.{Rule}
 use Rattle.hr_parse.proofs.Operands.{Fits}
 use Rattle.hr_parse.proofs.Whole.{Cause, begins_all, read_is, is_read, refused}
@@ -75,7 +76,7 @@ cause_end L s end (Cause.at_end u) = inr (refl, refl, u)
 cause_begins : {A : Type 0} (L : List Lexeme → A → Type 0) (s : List Lexeme) → Cause L s [] → Begins L s
 cause_begins L s (Cause.at_end u) = u.0
 
-module _ {A : Type 0} (f : ℕ → Reader A) (L : List Lexeme → A → Type 0) (c : Lexeme → Bool) (rule : (n : ℕ) → Rule (f n) L c (Fits 6 n)) (s : List Lexeme) (first : Option LexError) (end : ℕ) where
+module _ {A : Type 0} (f : ℕ → Reader A) (L : List Lexeme → A → Type 0) (c : Shape) (rule : (n : ℕ) → Rule (f n) L c (Fits 6 n)) (s : List Lexeme) (first : Option LexError) (end : ℕ) where
   abbrev read : Outcome A
   read = alone (f (depth_for s)) s
 

@@ -5,6 +5,7 @@ use Rattle.std.proofs.lemmas.List.{append-nil, length-append}
 use Rattle.hr_parse.specs.declared.word.Lexeme.{Lexeme}
 use Rattle.hr_parse.specs.Readers.{Reader, and_then, pure, expect_end, alone}
 use Rattle.hr_parse.specs.Parse.{Begins, UnexpectedAt, Unended}
+use Rattle.hr_parse.proofs.Shapes.{Shape}
 use Rattle.hr_parse.proofs.Rules.{Got, Stuck, Whole, Rule, bind_ok, bind_err, ok_parts}
 use Rattle.hr_parse.proofs.Operands.{Fits}
 
@@ -27,7 +28,7 @@ begins_all L s a l = ([], a, subst (λ z. L z a) (sym (append-nil s)) l)
 fits_front : (k n : ℕ) (front s rest : List Lexeme) → s ≡ front ++ rest → Fits k n (length s) → Fits k n (length front)
 fits_front k n front s rest e fits = let z : length s ≡ length front + length rest = ap length e ∙ length-append front rest in omega (arith, z, fits)
 
-module _ {A : Type 0} (k n : ℕ) (f : Reader A) (L : List Lexeme → A → Type 0) (c : Lexeme → Bool) (rule : Rule f L c (Fits k n)) where
+module _ {A : Type 0} (k n : ℕ) (f : Reader A) (L : List Lexeme → A → Type 0) (c : Shape) (rule : Rule f L c (Fits k n)) where
   pub read_is : (s t : List Lexeme) (a : A) → alone f s ≡ Ok (a, t) → L s a
   read_is s t a e =
       let z = bind_ok (f s) ended (a, t) e in

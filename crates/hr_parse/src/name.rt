@@ -1,6 +1,6 @@
 //! Names and columns.
 
-ghost use Rattle.hr_parse.specs.Readers as spec;
+ghost use Rattle.hr_parse.specs.Grammar as spec;
 ghost use Rattle.hr_parse.specs.Readers.{Reads};
 
 use crate::ast::{ColumnAst, NameAt};
@@ -8,9 +8,9 @@ use crate::parser::{Parser, Stop};
 use crate::word::{Mark, Sign, Word};
 
 impl<'a> Parser<'a> {
-    #[tactic(auto, unfolding(crate::specs::Readers::name))]
+    #[tactic(auto, unfolding(crate::specs::Readers::read_name))]
     pub fn name(&mut self) -> Result<NameAt, Stop>
-        ensures { Reads (spec.name self.old.rest.now) result self.new.rest.now }
+        ensures { Reads (spec.name.reads self.old.rest.now) result self.new.rest.now }
     {
         if let [first, rest @ ..] = self.rest
             && let Word::Name(name) = &first.word
@@ -25,10 +25,10 @@ impl<'a> Parser<'a> {
         }
     }
 
-    #[tactic(auto, unfolding(crate::specs::Readers::column))]
+    #[tactic(auto, unfolding(crate::specs::Grammar::column))]
     /// `column = name [ "." name ]`
     pub fn column(&mut self) -> Result<ColumnAst, Stop>
-        ensures { Reads (spec.column self.old.rest.now) result self.new.rest.now }
+        ensures { Reads (spec.column.reads self.old.rest.now) result self.new.rest.now }
     {
         let first = self.name()?;
         let second = if self.eat(Mark::Sign(Sign::Dot)) {

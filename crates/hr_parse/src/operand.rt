@@ -1,6 +1,7 @@
 //! Literals and operands.
 
 ghost use Rattle.std.specs.Prelude.{◌≡◌};
+ghost use Rattle.hr_parse.specs.Grammar as grammar;
 ghost use Rattle.hr_parse.specs.Readers as spec;
 ghost use Rattle.hr_parse.specs.Readers.{Reads};
 
@@ -86,9 +87,9 @@ impl<'a> Parser<'a> {
     }
 
     /// `literal = [ "-" ] number | text | NULL`
-    #[tactic(auto, unfolding(crate::specs::Readers::literal))]
+    #[tactic(auto, unfolding(crate::specs::Grammar::literal))]
     pub fn literal(&mut self) -> Result<LiteralAst, Stop>
-        ensures { Reads (spec.literal self.old.rest.now) result self.new.rest.now }
+        ensures { Reads (grammar.literal.reads self.old.rest.now) result self.new.rest.now }
     {
         if let Some(at) = self.eat_at(Mark::Sign(Sign::Minus)) {
             self.negative(at)
@@ -103,9 +104,9 @@ impl<'a> Parser<'a> {
     }
 
     /// `operand = column | literal`
-    #[tactic(auto, unfolding(crate::specs::Readers::operand_at))]
+    #[tactic(auto, unfolding(crate::specs::Grammar::operand))]
     pub fn operand(&mut self) -> Result<OperandAst, Stop>
-        ensures { Reads (spec.operand_at self.old.rest.now) result self.new.rest.now }
+        ensures { Reads (grammar.operand.reads self.old.rest.now) result self.new.rest.now }
     {
         if self.sees_name() {
             Ok(OperandAst::Column(self.column()?))
@@ -115,7 +116,7 @@ impl<'a> Parser<'a> {
     }
 
     pub fn boxed_operand(&mut self) -> Result<Boxed<OperandAst>, Stop>
-        ensures { Reads (spec.operand_at self.old.rest.now) result self.new.rest.now }
+        ensures { Reads (grammar.operand.reads self.old.rest.now) result self.new.rest.now }
     {
         let operand = self.operand()?;
         Ok(Boxed::new(self.alloc, operand)?)

@@ -2,7 +2,7 @@
 
 ghost use Rattle.std.specs.Prelude.{◌≡◌, suc, MatchResult};
 ghost use Rattle.hr_parse.specs.Readers as spec;
-ghost use Rattle.hr_parse.specs.Readers.{Eats, Reads};
+ghost use Rattle.hr_parse.specs.Readers.{Eats, Expects, Reads};
 
 use crate::word::{Lexeme, Mark, Word, is_mark};
 use hr_rel::Op;
@@ -91,7 +91,7 @@ impl<'a> Parser<'a> {
 
     /// Takes this mark, which has to come next.
     pub fn expect(&mut self, mark: Mark) -> Result<(), Stop>
-        ensures { Reads (spec.expect mark self.old.rest.now) result self.new.rest.now }
+        ensures { Expects mark self.old.rest.now result self.new.rest.now }
     {
         if self.eat(mark) {
             Ok(())

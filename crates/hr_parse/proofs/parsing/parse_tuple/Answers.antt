@@ -1,7 +1,8 @@
 use Rattle.std.proofs.Common.{◌≡◌, ◌⊎◌, refl, ◌*◌, ◌+◌, sym, subst, inl, inr, length, IfOk, IfErr, Ok, Err, None, rules, arith}
 use Rattle.std.proofs.lemmas.Grind.{common_steps}
 use Rattle.hr_parse.specs.declared.parsing.ParseError.TheVariants as e
-use Rattle.hr_parse.specs.Readers.{Reads, only_tuple}
+use Rattle.hr_parse.specs.Readers.{Reads, alone}
+use Rattle.hr_parse.specs.Grammar.{tuple}
 use Rattle.hr_parse.specs.Parse.{IsTupleFrom, TupleRefused, words_from, error_from, depth_for, parsed_tuple}
 use Rattle.hr_parse.proofs.Told.{exactly, by_exact, if_ok, if_err}
 use Rattle.hr_parse.proofs.Texts.{tuple_tree, tuple_refused}
@@ -17,9 +18,9 @@ returns-clause-exact c =
     let placed : given ≡ words_from from text = first_of (search rules, cc, grind (arith, common_steps)) in
     let ends = λ (none : error_from from text ≡ None). c.end_of.ensures c.requires.short in
     let len : c.len.result ≡ length given = first_of (search rules, cc, grind (arith, common_steps)) in
-    let reads : Reads (only_tuple (depth_for given) given) c.only_tuple-read.result c.only_tuple-read.new.self.rest.now =
-    subst (λ n. Reads (only_tuple (4 * n + 6) given) c.only_tuple-read.result c.only_tuple-read.new.self.rest.now) len c.only_tuple-read.ensures in
-    let k = exactly only_tuple given (words_from from text) c.only_tuple-read.result c.only_tuple-read.new.self.rest.now c.in_ok-moved.field-0 (error_from from text) c.end_of.result (length text) placed first ends reads in
+    let reads : Reads (alone (tuple (depth_for given)).reads given) c.only_tuple-read.result c.only_tuple-read.new.self.rest.now =
+    subst (λ n. Reads (alone (tuple (4 * n + 6)).reads given) c.only_tuple-read.result c.only_tuple-read.new.self.rest.now) len c.only_tuple-read.ensures in
+    let k = exactly (λ n. alone (tuple n).reads) given (words_from from text) c.only_tuple-read.result c.only_tuple-read.new.self.rest.now c.in_ok-moved.field-0 (error_from from text) c.end_of.result (length text) placed first ends reads in
     subst (λ z. (z ≡ parsed_tuple from text) ⊎ (z ≡ Err e.Memory)) (sym c.told.ensures) k
 
 pub returns-clause-ok : goal.returns-clause-ok
