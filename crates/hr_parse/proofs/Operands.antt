@@ -23,10 +23,10 @@ use Rattle.hr_parse.specs.declared.word.Word.TheVariants as w
 use Rattle.hr_parse.specs.declared.word.Lexeme.{Lexeme}
 use Rattle.hr_parse.specs.Words.{mark, named, number, text, compare}
 use Rattle.hr_parse.specs.Trees.{minus}
-use Rattle.hr_parse.specs.Readers.{Outcome, Reader, ◌>>=◌, and_then, pure, refuse, place, sees, expect_at, ahead_at, name_of, read_name, is_name, sees_name, comparison, sees_compare, compares, read_compare, literal_by, negative_word, constant_word, negative, constant, listed_behind}
+use Rattle.hr_parse.specs.Readers.{Outcome, Reader, ◌>>=◌, and_then, pure, refuse, place, sees, expect, ahead_at, by_test, name_of, read_name, is_name, sees_name, comparison, sees_compare, compares, read_compare, valued, negative_word, constant_word, negative, constant, listed_behind}
 use Rattle.hr_parse.specs.Grammar.{Language, Grammar, IsMark, IsCompare, Gives, Seq, Map, Either, Listed, optional, listed, IsName, IsNegative, IsConstant, column, literal, operand, between, among, nullity, range_or_list_of, range_or_list, check, predicate}
 use Rattle.hr_parse.proofs.Shapes.{among as among_kinds, kind, apart, only, Shape, word, a_mark, nothing, ◌▸◌, ◌∥◌, Begins, Stops, inside, stops_inside}
-use Rattle.hr_parse.proofs.Rules.{Rule, Parts, less, rule_alike, rule_iso, rule_weak, rule_shape, rule_behind, rule_seq, rule_pure, rule_map, by_test, rule_test, test_read, branch, rule_branch, rule_mark, rule_key, rule_case, rule_refuse}
+use Rattle.hr_parse.proofs.Rules.{Rule, Parts, less, rule_alike, rule_iso, rule_weak, rule_shape, rule_behind, rule_seq, rule_pure, rule_map, rule_test, test_read, branch, rule_branch, rule_mark, rule_key, rule_case, rule_refuse}
 
 -- a length that the number of turns allows
 abbrev pub Fits : ℕ → ℕ → ℕ → Type 0
@@ -42,55 +42,31 @@ Holds g s P = Rule g.reads g.gives s P
 abbrev pub a_name : Shape
 a_name = word (0 ∷ [])
 
-abbrev same_place : ℕ → ℕ
-same_place p = p
+abbrev negative_test : ℕ → Lexeme → Option LiteralAst
+negative_test p x = valued p (negative_word x.word)
+
+abbrev constant_test : Lexeme → Option LiteralAst
+constant_test x = valued x.at (constant_word x.word)
 
 -- ---- names and columns
 
-abbrev name_of_word : Word → ℕ → Option NameAt
-name_of_word (w.Name n) p = Some (record { name = n; at = p })
-name_of_word (w.Fixed k) p = None
-name_of_word (w.Number n) p = None
-name_of_word (w.Text t) p = None
-name_of_word (w.Compare o) p = None
-
-abbrev name_test : Lexeme → Option NameAt
-name_test x = name_of_word x.word x.at
-
-name_alike_word : (v : Word) (p : ℕ) (rest : List Lexeme) → name_of (record { word = v; at = p }) rest ≡ by_test name_test (record { word = v; at = p } ∷ rest)
-name_alike_word (w.Name n) p rest = refl
-name_alike_word (w.Fixed k) p rest = refl
-name_alike_word (w.Number n) p rest = refl
-name_alike_word (w.Text t) p rest = refl
-name_alike_word (w.Compare o) p rest = refl
-
-name_alike : (s : List Lexeme) → read_name s ≡ by_test name_test s
-unfolding read_name
-name_alike [] = refl
-name_alike (x ∷ s) = name_alike_word x.word x.at s
-
-to_name : (v : Word) (p : ℕ) (a : NameAt) → name_of_word v p ≡ Some a → IsName (record { word = v; at = p } ∷ []) a
+to_name : (v : Word) (p : ℕ) (a : NameAt) → name_of (record { word = v; at = p }) ≡ Some a → IsName (record { word = v; at = p } ∷ []) a
 to_name (w.Name n) p a e = let q : record { name = n; at = p } ≡ a = cc in subst (λ z. IsName (named n p ∷ []) z) q (IsName.the_name n p)
-to_name (w.Fixed k) p a e = absurd (cc)
-to_name (w.Number n) p a e = absurd (cc)
-to_name (w.Text t) p a e = absurd (cc)
-to_name (w.Compare o) p a e = absurd (cc)
+to_name _ p a e = absurd (cc)
 
 name_begins : (u : List Lexeme) (a : NameAt) → IsName u a → Begins a_name u
 name_begins u a (IsName.the_name n p) = refl
 
-name_read : (u : List Lexeme) (a : NameAt) → IsName u a → (t : List Lexeme) → by_test name_test (u ++ t) ≡ Ok (a, t)
+name_read : (u : List Lexeme) (a : NameAt) → IsName u a → (t : List Lexeme) → by_test name_of (u ++ t) ≡ Ok (a, t)
 name_read u a (IsName.the_name n p) t = refl
 
 pub rule_name : {P : ℕ → Type 0} → Rule read_name IsName a_name P
-rule_name {P} = rule_alike read_name name_alike (rule_test {P = P} name_test (0 ∷ []) (named [] 0) (record { name = []; at = 0 }) refl (λ x a e. to_name x.word x.at a e) name_begins name_read)
+unfolding read_name
+rule_name {P} = rule_test {P = P} name_of (0 ∷ []) (named [] 0) (record { name = []; at = 0 }) refl (λ x a e. to_name x.word x.at a e) name_begins name_read
 
 no_name_word : (v : Word) → among_kinds (0 ∷ []) (kind v) ≡ false → is_name v ≡ false
 no_name_word (w.Name n) e = absurd (cc)
-no_name_word (w.Fixed k) e = refl
-no_name_word (w.Number n) e = refl
-no_name_word (w.Text t) e = refl
-no_name_word (w.Compare o) e = refl
+no_name_word _ e = refl
 
 no_name : (t : List Lexeme) → Stops (0 ∷ []) t → sees_name t ≡ false
 no_name [] st = refl
@@ -102,7 +78,7 @@ pub rule_named : {A : Type 0} {f g : Reader A} {L M : Language A} {s d : Shape} 
 rule_named {s = s} by full seen here there far = rule_branch sees_name (λ x u t. refl) seen (λ t st. no_name t (subst (λ z. Stops z t) by st)) full here there far
 
 pub rule_optional : {A : Type 0} {f : Reader A} {L : Language A} {s : Shape} {P : ℕ → Type 0} (k : Mark) → Parts P → Rule f L s P
-    → Rule (branch (sees k) (expect_at k >>= (λ _. f >>= (λ a. pure (Some a)))) (pure None)) (Either (Seq (IsMark k) (λ _. Map Some L)) (Gives None)) ((a_mark k ▸ s) ∥ nothing) P
+    → Rule (branch (sees k) (expect k >>= (λ _. f >>= (λ a. pure (Some a)))) (pure None)) (Either (Seq (IsMark k) (λ _. Map Some L)) (Gives None)) ((a_mark k ▸ s) ∥ nothing) P
 rule_optional k parts r = rule_case k (less parts) (λ _. rule_map Some r) (rule_pure None) refl
 
 abbrev pub columns : Shape
@@ -114,70 +90,52 @@ rule_column parts = rule_seq parts rule_name (λ first. rule_map (λ second. rec
 
 -- ---- literals
 
-abbrev placed_by : (ℕ → ℕ) → (Word → Option LitAst) → Lexeme → Option LiteralAst
-placed_by at test x = option_map (λ v. record { value = v; at = at x.at }) (test x.word)
-
-literal_alike_at : (x : Lexeme) (p : ℕ) (rest : List Lexeme) (o : Option LitAst)
-    → (let r : Outcome LiteralAst = elim o [ Some value ↦ Ok (record { value = value; at = p }, rest) | None ↦ Err (x ∷ rest) ] in r)
-    ≡ (elim (let q : Option LiteralAst = option_map (λ v. record { value = v; at = p }) o in q) [ Some a ↦ Ok (a, rest) | None ↦ Err (x ∷ rest) ])
-literal_alike_at x p rest (Some v) = refl
-literal_alike_at x p rest None = refl
-
-literal_alike : (test : Word → Option LitAst) (at : ℕ → ℕ) (s : List Lexeme) → literal_by test (λ x. at x.at) s ≡ by_test (placed_by at test) s
-literal_alike test at [] = refl
-literal_alike test at (x ∷ s) = literal_alike_at x (at x.at) s (test x.word)
-
-within : (b : Bool) (z : ℤ) (p : ℕ) (a : LiteralAst) → option_map (λ v. record { value = v; at = p }) (option_map lit.Int (if b then Some z else None)) ≡ Some a → (b ≡ true) × (record { value = lit.Int z; at = p } ≡ a)
+within : (b : Bool) (z : ℤ) (p : ℕ) (a : LiteralAst) → valued p (option_map lit.Int (if b then Some z else None)) ≡ Some a → (b ≡ true) × (record { value = lit.Int z; at = p } ≡ a)
 within true z p a e = (refl, let q : record { value = lit.Int z; at = p } ≡ a = cc in q)
 within false z p a e = absurd (cc)
 
-to_negative : (p : ℕ) (v : Word) (q : ℕ) (a : LiteralAst) → option_map (λ v. record { value = v; at = p }) (negative_word v) ≡ Some a → IsNegative p (record { word = v; at = q } ∷ []) a
+to_negative : (p : ℕ) (v : Word) (q : ℕ) (a : LiteralAst) → valued p (negative_word v) ≡ Some a → IsNegative p (record { word = v; at = q } ∷ []) a
 to_negative p (w.Number n) q a e =
     let k = within (nat_le n (2 ^ 63)) (minus n) p a e in
     let small : n ≤ 2 ^ 63 = grind (arith, nat_tests, k.0) in
     subst (λ z. IsNegative p (number n q ∷ []) z) k.1 (IsNegative.signed n q small)
-to_negative p (w.Name n) q a e = absurd (cc)
-to_negative p (w.Fixed k) q a e = absurd (cc)
-to_negative p (w.Text t) q a e = absurd (cc)
-to_negative p (w.Compare o) q a e = absurd (cc)
+to_negative p _ q a e = absurd (cc)
 
 negative_begins : (p : ℕ) (u : List Lexeme) (a : LiteralAst) → IsNegative p u a → Begins (word (1 ∷ [])) u
 negative_begins p u a (IsNegative.signed n q h) = refl
 
-negative_read : (p : ℕ) (u : List Lexeme) (a : LiteralAst) → IsNegative p u a → (t : List Lexeme) → by_test (placed_by (λ _. p) negative_word) (u ++ t) ≡ Ok (a, t)
+negative_read : (p : ℕ) (u : List Lexeme) (a : LiteralAst) → IsNegative p u a → (t : List Lexeme) → by_test (negative_test p) (u ++ t) ≡ Ok (a, t)
 negative_read p u a (IsNegative.signed n q h) t =
     let k : nat_le n (2 ^ 63) ≡ true = grind (arith, nat_tests) in
-    test_read (placed_by (λ _. p) negative_word) (number n q) (record { value = lit.Int (minus n); at = p }) (rw k refl) t
+    test_read (negative_test p) (number n q) (record { value = lit.Int (minus n); at = p }) (rw k refl) t
 
 rule_negative : {P : ℕ → Type 0} (p : ℕ) → Rule (negative p) (IsNegative p) (word (1 ∷ [])) P
 unfolding negative
-rule_negative {P} p = rule_alike (negative p) (literal_alike negative_word (λ _. p))
-    (rule_test {P = P} (placed_by (λ _. p) negative_word) (1 ∷ []) (number 0 0) (record { value = lit.Int (pos 0); at = p }) refl (λ x a e. to_negative p x.word x.at a e) (negative_begins p) (negative_read p))
+rule_negative {P} p =
+    rule_test {P = P} (negative_test p) (1 ∷ []) (number 0 0) (record { value = lit.Int (pos 0); at = p }) refl (λ x a e. to_negative p x.word x.at a e) (negative_begins p) (negative_read p)
 
-to_constant : (v : Word) (p : ℕ) (a : LiteralAst) → option_map (λ v. record { value = v; at = p }) (constant_word v) ≡ Some a → IsConstant (record { word = v; at = p } ∷ []) a
+to_constant : (v : Word) (p : ℕ) (a : LiteralAst) → valued p (constant_word v) ≡ Some a → IsConstant (record { word = v; at = p } ∷ []) a
 to_constant (w.Number n) p a e =
     let k = within (nat_lt n (2 ^ 63)) (pos n) p a e in
     let small : n < 2 ^ 63 = grind (arith, nat_tests, k.0) in
     subst (λ z. IsConstant (number n p ∷ []) z) k.1 (IsConstant.unsigned n p small)
 to_constant (w.Text t) p a e = let q : record { value = lit.Text t; at = p } ≡ a = cc in subst (λ z. IsConstant (text t p ∷ []) z) q (IsConstant.quoted t p)
-to_constant (w.Name n) p a e = absurd (cc)
-to_constant (w.Fixed k) p a e = absurd (cc)
-to_constant (w.Compare o) p a e = absurd (cc)
+to_constant _ p a e = absurd (cc)
 
 constant_begins : (u : List Lexeme) (a : LiteralAst) → IsConstant u a → Begins (word (1 ∷ [])) u
 constant_begins u a (IsConstant.unsigned n p h) = refl
 constant_begins u a (IsConstant.quoted t p) = refl
 
-constant_read : (u : List Lexeme) (a : LiteralAst) → IsConstant u a → (t : List Lexeme) → by_test (placed_by same_place constant_word) (u ++ t) ≡ Ok (a, t)
+constant_read : (u : List Lexeme) (a : LiteralAst) → IsConstant u a → (t : List Lexeme) → by_test constant_test (u ++ t) ≡ Ok (a, t)
 constant_read u a (IsConstant.unsigned n p h) t =
     let k : nat_lt n (2 ^ 63) ≡ true = grind (arith, nat_tests) in
-    test_read (placed_by same_place constant_word) (number n p) (record { value = lit.Int (pos n); at = p }) (rw k refl) t
+    test_read constant_test (number n p) (record { value = lit.Int (pos n); at = p }) (rw k refl) t
 constant_read u a (IsConstant.quoted s p) t = refl
 
 rule_constant : {P : ℕ → Type 0} → Rule constant IsConstant (word (1 ∷ [])) P
 unfolding constant
-rule_constant {P} = rule_alike constant (literal_alike constant_word same_place)
-    (rule_test {P = P} (placed_by same_place constant_word) (1 ∷ []) (number 0 0) (record { value = lit.Int (pos 0); at = 0 }) refl (λ x a e. to_constant x.word x.at a e) constant_begins constant_read)
+rule_constant {P} =
+    rule_test {P = P} constant_test (1 ∷ []) (number 0 0) (record { value = lit.Int (pos 0); at = 0 }) refl (λ x a e. to_constant x.word x.at a e) constant_begins constant_read
 
 abbrev pub literals : Shape
 literals = (a_mark (m.Sign sg.Minus) ▸ word (1 ∷ [])) ∥ (a_mark (m.Keyword kw.Null) ▸ nothing) ∥ word (1 ∷ [])
@@ -260,10 +218,7 @@ rule_listed {f = f} {L = L} {s = s} {k = k} {n = n} some full far covers r = rul
 
 compare_of_word : (o : Op) (v : Word) → comparison v ≡ Some o → v ≡ w.Compare o
 compare_of_word o (w.Compare k) e = let q : k ≡ o = cc in ap w.Compare q
-compare_of_word o (w.Fixed k) e = cc
-compare_of_word o (w.Name n) e = cc
-compare_of_word o (w.Number n) e = cc
-compare_of_word o (w.Text t) e = cc
+compare_of_word o _ e = cc
 
 pub is_the_compare : (o : Op) (x : Lexeme) → comparison x.word ≡ Some o → x ≡ compare o x.at
 is_the_compare o x e = let f : Word → Lexeme = λ v. record { word = v; at = x.at } in ap f (compare_of_word o x.word e)
@@ -294,10 +249,7 @@ compare_seen L u a t (Seq.seq (IsCompare.the o p) l) = refl
 
 no_compare_word : (v : Word) → among_kinds (2 ∷ []) (kind v) ≡ false → comparison v ≡ None
 no_compare_word (w.Compare o) e = absurd (cc)
-no_compare_word (w.Fixed k) e = refl
-no_compare_word (w.Name n) e = refl
-no_compare_word (w.Number n) e = refl
-no_compare_word (w.Text t) e = refl
+no_compare_word _ e = refl
 
 no_compare : (t : List Lexeme) → Stops (2 ∷ []) t → compares t ≡ false
 no_compare [] st = refl

@@ -1,32 +1,39 @@
 -- What holds of a reader of a rule, and how it is put together from what holds of the rule's parts.
-use Rattle.std.proofs.Common.{◌≡◌, ◌⊎◌, inl, inr, ℕ, suc, ◌+◌, Bool, true, false, if◌then◌else◌, drop, List, [], ◌∷◌, ◌++◌, length, Option, Some, None, Ok, Err, ap, subst, refl, sym, ◌∙◌, arith, append_assoc}
+use Rattle.std.proofs.Common.{◌≡◌, ◌⊎◌, inl, inr, ℕ, suc, ◌+◌, Bool, true, false, if◌then◌else◌, drop, List, [], ◌∷◌, ◌++◌, length, Option, Some, None, Ok, Err, ap, subst, refl, sym, ◌∙◌, arith, rules, append_assoc}
 use Rattle.std.proofs.lemmas.List.{append-nil, length-append}
+use denote.Enum.Bare.{same_true, true_same}
+use Rattle.hr_lex.specs.contracts.token.Keyword as keywords
+use Rattle.hr_parse.specs.contracts.word.Sign as signs
 use Rattle.hr_parse.specs.declared.word.Mark.{Mark}
+use Rattle.hr_parse.specs.declared.word.Mark.TheVariants as m
+use Rattle.hr_parse.specs.declared.word.Word.{Word}
 use Rattle.hr_parse.specs.declared.word.Word.TheVariants as w
 use Rattle.hr_parse.specs.declared.word.Lexeme.{Lexeme}
-use Rattle.hr_parse.specs.Words.{is_mark, mark}
-use Rattle.hr_parse.specs.Readers.{Outcome, Reader, and_then, ◌>>=◌, pure, refuse, place, sees, expect_at}
+use Rattle.hr_parse.specs.Words.{same_mark, is_mark, mark}
+use Rattle.hr_parse.specs.Readers.{Outcome, Reader, and_then, ◌>>=◌, pure, refuse, by_test, place, sees, expect}
 use Rattle.hr_parse.specs.Grammar.{Language, IsMark, Gives, Seq, Map, Either}
-use Rattle.hr_parse.proofs.Marks.{mark_self, is_the_mark}
 use Rattle.hr_parse.proofs.Shapes.{kind, among, apart, apart_none, equal_self, only, Shape, word, a_mark, nothing, ◌▸◌, ◌∥◌, Begins, Stops, stops_none, stops_both, stops_neither, stops_before, inside, stops_inside, begins_as, begins_both, begins_first, begins_second}
 
--- the outcome is that of any words that are the same up to the first that wasn't taken
-abbrev pub Same : {A : Type 0} → Reader A → List Lexeme → List Lexeme → (List Lexeme → Outcome A) → Type 0
-Same f front rest outcome = (x : Lexeme) (v w : List Lexeme) → rest ≡ x ∷ v → f (front ++ (x ∷ w)) ≡ outcome (x ∷ w)
+-- what is left of the words, and the same outcome with other words left
+abbrev pub left : {A : Type 0} → Outcome A → List Lexeme
+left (Ok p) = p.1
+left (Err t) = t
 
-pub record Got {A : Type 0} (f : Reader A) (L : Language A) (s : List Lexeme) (a : A) (t : List Lexeme) : Type 0 where
-  pub front : List Lexeme
-  pub split : s ≡ front ++ t
-  pub gives : L front a
-  pub same : Same f front t (λ w. Ok (a, w))
+abbrev again : {A : Type 0} → Outcome A → List Lexeme → Outcome A
+again (Ok p) w = Ok (p.0, w)
+again (Err t) w = Err w
 
-pub record Stuck {A : Type 0} (f : Reader A) (L : Language A) (s : List Lexeme) (t : List Lexeme) : Type 0 where
+-- what was taken is in the language, with that tree, or can go on to something in it
+abbrev Goes : {A : Type 0} → Language A → List Lexeme → Outcome A → Type 0
+Goes L front (Ok p) = L front p.0
+Goes {A} L front (Err t) = (more : List Lexeme) × (a : A) × L (front ++ more) a
+
+-- what the reader took for an outcome, which hangs on no word behind the first that it left
+pub record Took {A : Type 0} (f : Reader A) (L : Language A) (u : List Lexeme) (r : Outcome A) : Type 0 where
   pub front : List Lexeme
-  pub split : s ≡ front ++ t
-  pub more : List Lexeme
-  pub tree : A
-  pub gives : L (front ++ more) tree
-  pub same : Same f front t (λ w. Err w)
+  pub split : u ≡ front ++ left r
+  pub gives : Goes L front r
+  pub same : (x : Lexeme) (v w : List Lexeme) → left r ≡ x ∷ v → f (front ++ (x ∷ w)) ≡ again r (x ∷ w)
 
 -- the reader stops where more turns than fit would be needed
 pub record Late {A : Type 0} (f : Reader A) (P : ℕ → Type 0) (s : List Lexeme) : Type 0 where
@@ -39,16 +46,14 @@ pub record Late {A : Type 0} (f : Reader A) (P : ℕ → Type 0) (s : List Lexem
 abbrev pub Whole : {A : Type 0} → Reader A → (ℕ → Type 0) → List Lexeme → A → List Lexeme → Type 0
 Whole f P s a t = (f s ≡ Ok (a, t)) ⊎ Late f P s
 
--- The reader reads the language: what it gives is in the language; where it stops, what it took can go on to
--- something in the language, and both depend on no word behind the first that wasn't taken. What is in the language
--- begins as the shape says, and is read where what follows doesn't go on with it, unless it takes more turns than fit.
+-- The reader reads the language. What is in it begins as the shape says, and is read where what follows doesn't go on with
+-- it, unless that takes more turns than fit.
 pub record Rule {A : Type 0} (f : Reader A) (L : Language A) (s : Shape) (P : ℕ → Type 0) : Type 0 where
   pub words : List Lexeme
   pub tree : A
   pub some : L words tree
   pub begins : (u : List Lexeme) (a : A) → L u a → Begins s u
-  pub got : (u t : List Lexeme) (a : A) → f u ≡ Ok (a, t) → Got f L u a t
-  pub stuck : (u t : List Lexeme) → f u ≡ Err t → Stuck f L u t
+  pub took : (u : List Lexeme) (r : Outcome A) → f u ≡ r → Took f L u r
   pub whole : (u : List Lexeme) (a : A) → L u a → (t : List Lexeme) → Stops s.stops t → Whole f P (u ++ t) a t
 
 -- ---- the same rule, otherwise
@@ -56,6 +61,10 @@ pub record Rule {A : Type 0} (f : Reader A) (L : Language A) (s : Shape) (P : �
 whole_change : {A : Type 0} {f : Reader A} {P Q : ℕ → Type 0} (g : Reader A) (u t : List Lexeme) (a : A) → g u ≡ f u → ((i : ℕ) → Q i → P i) → Whole f P u a t → Whole g Q u a t
 whole_change g u t a e fits (inl k) = inl (e ∙ k)
 whole_change g u t a e fits (inr k) = inr (record { front = k.front; rest = k.rest; split = k.split; stops = e ∙ k.stops; late = λ q. k.late (fits (length k.front) q) })
+
+goes_change : {A : Type 0} (L M : Language A) → ((u : List Lexeme) (a : A) → L u a → M u a) → (u : List Lexeme) (r : Outcome A) → Goes L u r → Goes M u r
+goes_change L M to u (Ok p) l = to u p.0 l
+goes_change L M to u (Err t) l = (l.0, l.1, to (u ++ l.0) l.1 l.2)
 
 -- a reader that is the same function, a language of the same words and trees, and fewer turns
 pub rule_change : {A : Type 0} {f : Reader A} {L M : Language A} {s : Shape} {P Q : ℕ → Type 0} (g : Reader A) → ((u : List Lexeme) → g u ≡ f u)
@@ -65,8 +74,7 @@ rule_change {A} {f} {L} {M} g e to of fits r = record {
   tree = r.tree;
   some = to r.words r.tree r.some;
   begins = λ u a l. r.begins u a (of u a l);
-  got = λ u t a h. let k : Got f L u a t = r.got u t a (sym (e u) ∙ h) in record { front = k.front; split = k.split; gives = to k.front a k.gives; same = λ x v z d. e (k.front ++ (x ∷ z)) ∙ k.same x v z d };
-  stuck = λ u t h. let k : Stuck f L u t = r.stuck u t (sym (e u) ∙ h) in record { front = k.front; split = k.split; more = k.more; tree = k.tree; gives = to (k.front ++ k.more) k.tree k.gives; same = λ x v z d. e (k.front ++ (x ∷ z)) ∙ k.same x v z d };
+  took = λ u o h. let k : Took f L u o = r.took u o (sym (e u) ∙ h) in record { front = k.front; split = k.split; gives = goes_change L M to k.front o k.gives; same = λ x v w d. e (k.front ++ (x ∷ w)) ∙ k.same x v w d };
   whole = λ u a l t st. whole_change g (u ++ t) t a (e (u ++ t)) fits (r.whole u a (of u a l) t st);
 }
 
@@ -80,7 +88,7 @@ pub rule_weak : {A : Type 0} {f : Reader A} {L : Language A} {s : Shape} {P : �
 rule_weak {f} Q fits r = rule_change f (λ u. refl) (λ u a l. l) (λ u a l. l) fits r
 
 pub rule_shape : {A : Type 0} {f : Reader A} {L : Language A} {s : Shape} {P : ℕ → Type 0} (d : Shape) → ((u : List Lexeme) (a : A) → L u a → Begins d u) → ((t : List Lexeme) → Stops d.stops t → Stops s.stops t) → Rule f L s P → Rule f L d P
-rule_shape d begins stops r = record { words = r.words; tree = r.tree; some = r.some; begins = begins; got = r.got; stuck = r.stuck; whole = λ u a l t st. r.whole u a l t (stops t st) }
+rule_shape d begins stops r = record { words = r.words; tree = r.tree; some = r.some; begins = begins; took = r.took; whole = λ u a l t st. r.whole u a l t (stops t st) }
 
 -- with more words that may not follow
 pub rule_stops : {A : Type 0} {f : Reader A} {L : Language A} {s : Shape} {P : ℕ → Type 0} (d : Shape) → s.starts ≡ d.starts → s.empty ≡ d.empty → inside s.stops d.stops ≡ true → Rule f L s P → Rule f L d P
@@ -91,70 +99,43 @@ ok_parts {A = A} a b s t e = let q : ◌≡◌ {A = A × List Lexeme} (a, s) (b,
 
 -- ---- one rule behind another
 
-pub bind_ok : {A B : Type 0} (r : Outcome A) (g : A → Reader B) (y : B × List Lexeme) → and_then r g ≡ Ok y → (p : A × List Lexeme) × (r ≡ Ok p) × (g p.0 p.1 ≡ Ok y)
-bind_ok (Ok p) g y e = (p, refl, e)
-bind_ok (Err w) g y e = absurd (cc)
-
-pub bind_err : {A B : Type 0} (r : Outcome A) (g : A → Reader B) (t : List Lexeme) → and_then r g ≡ Err t → (r ≡ Err t) ⊎ ((p : A × List Lexeme) × (r ≡ Ok p) × (g p.0 p.1 ≡ Err t))
-bind_err (Ok p) g t e = inr (p, refl, e)
-bind_err (Err w) g t e = let q : w ≡ t = cc in inl (ap Err q)
-
 -- what was taken first is taken again, where the words are the same up to the first that the second didn't take
-carry : {A : Type 0} (f : Reader A) (u : List Lexeme) (a : A) (s v t : List Lexeme) (x : Lexeme) (r w : List Lexeme)
-    → Same f u s (λ w. Ok (a, w)) → s ≡ v ++ t → t ≡ x ∷ r → f (u ++ (v ++ (x ∷ w))) ≡ Ok (a, v ++ (x ∷ w))
-carry f u a s [] t x r w same e d = same x r w (e ∙ d)
-carry f u a s (y ∷ ys) t x r w same e d = same y (ys ++ t) (ys ++ (x ∷ w)) e
+carry : {A : Type 0} (f : Reader A) (L : Language A) (u : List Lexeme) (p : A × List Lexeme) (one : Took f L u (Ok p)) (v t : List Lexeme) (x : Lexeme) (r w : List Lexeme)
+    → p.1 ≡ v ++ t → t ≡ x ∷ r → f (one.front ++ (v ++ (x ∷ w))) ≡ Ok (p.0, v ++ (x ∷ w))
+carry f L u p one [] t x r w e d = one.same x r w (e ∙ d)
+carry f L u p one (y ∷ ys) t x r w e d = one.same y (ys ++ t) (ys ++ (x ∷ w)) e
+
+goes_seq : {A B : Type 0} (L : Language A) (M : A → Language B) (u v : List Lexeme) (a : A) (r : Outcome B) → L u a → Goes (M a) v r → Goes (Seq L M) (u ++ v) r
+goes_seq L M u v a (Ok p) l k = Seq.seq l k
+goes_seq L M u v a (Err t) l k = (k.0, k.1, subst (λ (z : List Lexeme). Seq L M z k.1) (sym (append_assoc u v k.0)) (Seq.seq l k.2))
 
 module _ {A B : Type 0} (f : Reader A) (g : A → Reader B) (L : Language A) (M : A → Language B) (k d : Shape) (P Q R : ℕ → Type 0) (first : Rule f L k P) (second : (a : A) → Rule (g a) (M a) d Q) where
-  seq_same : (u v : List Lexeme) (a : A) (s t : List Lexeme) (outcome : List Lexeme → Outcome B) → Same f u s (λ w. Ok (a, w)) → s ≡ v ++ t → Same (g a) v t outcome
-      → Same (f >>= g) (u ++ v) t outcome
-  seq_same u v a s t outcome first e second x r w d = rw (append_assoc u v (x ∷ w), carry f u a s v t x r w first e d) (second x r w d)
-
-  seq_got : (s t : List Lexeme) (b : B) → (f >>= g) s ≡ Ok (b, t) → Got (f >>= g) (Seq L M) s b t
-  seq_got s t b e =
-      let k = bind_ok (f s) g (b, t) e in
-      let a : A = k.0.0 in
-      let m : List Lexeme = k.0.1 in
-      let one : Got f L s a m = first.got s m a k.1 in
-      let two : Got (g a) (M a) m b t = (second a).got m t b k.2 in
-      record {
-        front = one.front ++ two.front;
-        split = one.split ∙ (ap (λ z. one.front ++ z) two.split ∙ sym (append_assoc one.front two.front t));
-        gives = Seq.seq one.gives two.gives;
-        same = seq_same one.front two.front a m t (λ w. Ok (b, w)) one.same two.split two.same;
-      }
-
-  stuck_first : (s t : List Lexeme) → f s ≡ Err t → Stuck (f >>= g) (Seq L M) s t
-  stuck_first s t e =
-      let one : Stuck f L s t = first.stuck s t e in
-      let next : Rule (g one.tree) (M one.tree) d Q = second one.tree in
+  took_first : (s t : List Lexeme) → f s ≡ Err t → Took (f >>= g) (Seq L M) s (Err t)
+  took_first s t e =
+      let one : Took f L s (Err t) = first.took s (Err t) e in
+      let tree : A = one.gives.1 in
+      let next : Rule (g tree) (M tree) d Q = second tree in
       record {
         front = one.front;
         split = one.split;
-        more = one.more ++ next.words;
-        tree = next.tree;
-        gives = subst (λ (z : List Lexeme). Seq L M z next.tree) (append_assoc one.front one.more next.words) (Seq.seq one.gives next.some);
+        gives = (one.gives.0 ++ next.words, next.tree, subst (λ (z : List Lexeme). Seq L M z next.tree) (append_assoc one.front one.gives.0 next.words) (Seq.seq one.gives.2 next.some));
         same = λ x v w h. rw (one.same x v w h) refl;
       }
 
-  stuck_second : (s t : List Lexeme) (a : A) (m : List Lexeme) → f s ≡ Ok (a, m) → g a m ≡ Err t → Stuck (f >>= g) (Seq L M) s t
-  stuck_second s t a m e h =
-      let one : Got f L s a m = first.got s m a e in
-      let two : Stuck (g a) (M a) m t = (second a).stuck m t h in
+  took_second : (s : List Lexeme) (p : A × List Lexeme) (r : Outcome B) → f s ≡ Ok p → g p.0 p.1 ≡ r → Took (f >>= g) (Seq L M) s r
+  took_second s p r e h =
+      let one : Took f L s (Ok p) = first.took s (Ok p) e in
+      let two : Took (g p.0) (M p.0) p.1 r = (second p.0).took p.1 r h in
       record {
         front = one.front ++ two.front;
-        split = one.split ∙ (ap (λ z. one.front ++ z) two.split ∙ sym (append_assoc one.front two.front t));
-        more = two.more;
-        tree = two.tree;
-        gives = subst (λ (z : List Lexeme). Seq L M z two.tree) (sym (append_assoc one.front two.front two.more)) (Seq.seq one.gives two.gives);
-        same = seq_same one.front two.front a m t (λ w. Err w) one.same two.split two.same;
+        split = one.split ∙ (ap (λ z. one.front ++ z) two.split ∙ sym (append_assoc one.front two.front (left r)));
+        gives = goes_seq L M one.front two.front p.0 r one.gives two.gives;
+        same = λ x v w q. rw (append_assoc one.front two.front (x ∷ w), carry f L s p one two.front (left r) x v w two.split q) (two.same x v w q);
       }
 
-  seq_stuck : (s t : List Lexeme) → (f >>= g) s ≡ Err t → Stuck (f >>= g) (Seq L M) s t
-  seq_stuck s t e = elim (bind_err (f s) g t e) [
-    | inl h ↦ stuck_first s t h
-    | inr k ↦ stuck_second s t k.0.0 k.0.1 k.1 k.2
-  ]
+  seq_took_by : (s : List Lexeme) (r : Outcome B) (o : Outcome A) → f s ≡ o → and_then o g ≡ r → Took (f >>= g) (Seq L M) s r
+  seq_took_by s r (Ok p) h e = took_second s p r h e
+  seq_took_by s r (Err t) h e = subst (λ z. Took (f >>= g) (Seq L M) s z) e (took_first s t h)
 
   seq_later : (u m : List Lexeme) (a : A) (b : B) (t : List Lexeme) → f (u ++ m) ≡ Ok (a, m) → ((j : ℕ) → R (length u + j) → Q j) → Whole (g a) Q m b t → Whole (f >>= g) R (u ++ m) b t
   seq_later u m a b t e behind (inl k) = inl (rw e k)
@@ -197,8 +178,7 @@ rule_behind {A} {B} {f} {g} {L} {M} {s} {d} {P} {Q} R first second far before be
   tree = (second first.tree).tree;
   some = Seq.seq first.some (second first.tree).some;
   begins = seq_begins f g L M s d P Q R first second;
-  got = seq_got f g L M s d P Q R first second;
-  stuck = seq_stuck f g L M s d P Q R first second;
+  took = λ u r e. seq_took_by f g L M s d P Q R first second u r (f u) refl e;
   whole = seq_whole f g L M s d P Q R first second far before behind;
 }
 
@@ -216,11 +196,6 @@ rule_seq {P} parts first second far =
 
 -- ---- nothing
 
-pure_got : {A : Type 0} (a : A) (s t : List Lexeme) (b : A) → pure a s ≡ Ok (b, t) → Got (pure a) (Gives a) s b t
-pure_got a s t b e =
-    let k = ok_parts a b s t e in
-    record { front = []; split = k.1; gives = subst (λ z. Gives a [] z) k.0 Gives.nothing; same = λ x v w d. ap (λ z. Ok (z, x ∷ w)) k.0 }
-
 pure_whole : {A : Type 0} (a : A) (u : List Lexeme) (b : A) → Gives a u b → (t : List Lexeme) → pure a (u ++ t) ≡ Ok (b, t)
 pure_whole a u b Gives.nothing t = refl
 
@@ -233,8 +208,7 @@ rule_pure a = record {
   tree = a;
   some = Gives.nothing;
   begins = gives_begins a;
-  got = λ s t b e. pure_got a s t b e;
-  stuck = λ s t e. absurd (cc);
+  took = λ s r e. subst (λ z. Took (pure a) (Gives a) s z) e (record { front = []; split = refl; gives = Gives.nothing; same = λ x v w d. refl });
   whole = λ u b l t st. inl (pure_whole a u b l t);
 }
 
@@ -262,47 +236,23 @@ of_whole {f = f} {P = P} h r w b (Map.map {u} {a} l) t st = map_whole f h P (u +
 pub rule_map : {A B : Type 0} {f : Reader A} {L : Language A} {s : Shape} {P : ℕ → Type 0} (h : A → B) → Rule f L s P → Rule (f >>= (λ a. pure (h a))) (Map h L) s P
 rule_map {L = L} {s = s} {P = P} h r =
     let both = rule_iso (to_map h L) (of_map h L) (rule_behind P r (λ a. rule_pure {P = λ _. Unit {0}} (h a)) refl (λ i p. p) (λ u a l j p. tt)) in
-    record { words = both.words; tree = both.tree; some = both.some; begins = map_begins h L s r.begins; got = both.got; stuck = both.stuck; whole = of_whole h r }
+    record { words = both.words; tree = both.tree; some = both.some; begins = map_begins h L s r.begins; took = both.took; whole = of_whole h r }
 
 -- ---- one word by a test
 
-abbrev pub by_test : {A : Type 0} → (Lexeme → Option A) → Reader A
-by_test test [] = Err []
-by_test test (x ∷ rest) = elim (test x) [ Some a ↦ Ok (a, rest) | None ↦ Err (x ∷ rest) ]
-
 module _ {A : Type 0} (test : Lexeme → Option A) (L : Language A) (to : (x : Lexeme) (a : A) → test x ≡ Some a → L (x ∷ []) a) (y : Lexeme) (b : A) (example : test y ≡ Some b) where
-  test_got : (x : Lexeme) (s t : List Lexeme) (a : A) (v : Option A) → test x ≡ v → by_test test (x ∷ s) ≡ Ok (a, t) → Got (by_test test) L (x ∷ s) a t
-  test_got x s t a None h e = let z = rw (h, by_test) at e in absurd (cc)
-  test_got x s t a (Some d) h e =
-      let k = ok_parts d a s t (rw (h, by_test) at e) in
-      record {
-        front = x ∷ [];
-        split = ap (λ z. x ∷ z) k.1;
-        gives = to x a (h ∙ ap Some k.0);
-        same = λ o v w q. rw (h ∙ ap Some k.0, by_test) refl;
-      }
+  test_word : (x : Lexeme) (s : List Lexeme) (v : Option A) → test x ≡ v → Took (by_test test) L (x ∷ s) (elim v [ Some a ↦ Ok (a, s) | None ↦ Err (x ∷ s) ])
+  test_word x s (Some a) h = record { front = x ∷ []; split = refl; gives = to x a h; same = λ o v w q. rw (h, by_test) refl }
+  test_word x s None h = record {
+    front = [];
+    split = refl;
+    gives = (y ∷ [], b, to y b example);
+    same = λ o v w d. let first : x ≡ o = cc in let other : by_test test (x ∷ w) ≡ Err (x ∷ w) = rw (h, by_test) refl in subst (λ z. by_test test (z ∷ w) ≡ Err (z ∷ w)) first other;
+  }
 
-  test_all : (s t : List Lexeme) (a : A) → by_test test s ≡ Ok (a, t) → Got (by_test test) L s a t
-  test_all [] t a e = absurd (cc)
-  test_all (x ∷ s) t a e = test_got x s t a (test x) refl e
-
-  test_refused : (x : Lexeme) (s t : List Lexeme) (v : Option A) → test x ≡ v → by_test test (x ∷ s) ≡ Err t → Stuck (by_test test) L (x ∷ s) t
-  test_refused x s t (Some d) h e = let z = rw (h, by_test) at e in absurd (cc)
-  test_refused x s t None h e =
-      let z = rw (h, by_test) at e in
-      let q : (x ∷ s) ≡ t = cc in
-      record {
-        front = [];
-        split = q;
-        more = y ∷ [];
-        tree = b;
-        gives = to y b example;
-        same = λ o v r d. let first : x ≡ o = cc in let again : by_test test (x ∷ r) ≡ Err (x ∷ r) = rw (h, by_test) refl in subst (λ z. by_test test (z ∷ r) ≡ Err (z ∷ r)) first again;
-      }
-
-  test_stuck : (s t : List Lexeme) → by_test test s ≡ Err t → Stuck (by_test test) L s t
-  test_stuck [] t e = let q : [] ≡ t = cc in record { front = []; split = q; more = y ∷ []; tree = b; gives = to y b example; same = λ o v w d. absurd (cc) }
-  test_stuck (x ∷ s) t e = test_refused x s t (test x) refl e
+  test_took : (s : List Lexeme) → Took (by_test test) L s (by_test test s)
+  test_took [] = record { front = []; split = refl; gives = (y ∷ [], b, to y b example); same = λ o v w d. absurd (cc) }
+  test_took (x ∷ s) = test_word x s (test x) refl
 
 -- a word that passes a test, which is one of these kinds, and is in the language just then
 pub rule_test : {A : Type 0} {L : Language A} {P : ℕ → Type 0} (test : Lexeme → Option A) (kinds : List ℕ) (y : Lexeme) (b : A) → test y ≡ Some b → ((x : Lexeme) (a : A) → test x ≡ Some a → L (x ∷ []) a)
@@ -312,8 +262,7 @@ rule_test {L = L} test kinds y b example to begins read = record {
   tree = b;
   some = to y b example;
   begins = begins;
-  got = test_all test L to y b example;
-  stuck = test_stuck test L to y b example;
+  took = λ s r e. subst (λ z. Took (by_test test) L s z) e (test_took test L to y b example s);
   whole = λ u a l t st. inl (read u a l t);
 }
 
@@ -321,6 +270,25 @@ pub test_read : {A : Type 0} (test : Lexeme → Option A) (x : Lexeme) (a : A) �
 test_read test x a h t = rw (h, by_test) refl
 
 -- ---- marks
+
+mark_self : (a : Mark) → same_mark a a ≡ true
+unfolding same_mark
+mark_self (m.Keyword a) = true_same keywords.the_type a a refl
+mark_self (m.Sign a) = true_same signs.the_type a a refl
+
+same : (a b : Mark) → same_mark a b ≡ true → a ≡ b
+unfolding same_mark
+same (m.Keyword a) (m.Keyword b) e = ap m.Keyword (same_true keywords.the_type (search rules) a b e)
+same (m.Sign a) (m.Sign b) e = ap m.Sign (same_true signs.the_type (search rules) a b e)
+same _ _ e = absurd (cc)
+
+word_of_mark : (k : Mark) (v : Word) → is_mark k v ≡ true → v ≡ w.Fixed k
+word_of_mark k (w.Fixed j) e = ap w.Fixed (sym (same k j e))
+word_of_mark k _ e = cc
+
+-- a word that passes the test is the mark
+is_the_mark : (k : Mark) (x : Lexeme) → is_mark k x.word ≡ true → x ≡ mark k x.at
+is_the_mark k x e = let f : Word → Lexeme = λ v. record { word = v; at = x.at } in ap f (word_of_mark k x.word e)
 
 -- the value, where the test holds
 abbrev pub when : {A : Type 0} → Bool → A → Option A
@@ -357,16 +325,16 @@ at_alike : (b : Bool) (p : ℕ) (x : Lexeme) (t : List Lexeme) → (let r : Outc
 at_alike true p x t = refl
 at_alike false p x t = refl
 
-expect_alike : (k : Mark) (u : List Lexeme) → expect_at k u ≡ by_test (marked k) u
+expect_alike : (k : Mark) (u : List Lexeme) → expect k u ≡ by_test (marked k) u
 expect_alike k [] = refl
 expect_alike k (x ∷ t) = at_alike (is_mark k x.word) x.at x t
 
-pub rule_mark : {P : ℕ → Type 0} (k : Mark) → Rule (expect_at k) (IsMark k) (a_mark k) P
-rule_mark {P} k = rule_alike (expect_at k) (expect_alike k) (rule_test {P = P} (marked k) (only k) (mark k 0) 0 (mark_marked k 0) (to_mark k) (mark_begins k) (mark_read k))
+pub rule_mark : {P : ℕ → Type 0} (k : Mark) → Rule (expect k) (IsMark k) (a_mark k) P
+rule_mark {P} k = rule_alike (expect k) (expect_alike k) (rule_test {P = P} (marked k) (only k) (mark k 0) 0 (mark_marked k 0) (to_mark k) (mark_begins k) (mark_read k))
 
 -- a mark, and what stands behind it
 pub rule_key : {A : Type 0} {f : ℕ → Reader A} {L : ℕ → Language A} {s : Shape} {P Q : ℕ → Type 0} (k : Mark) → ((i : ℕ) → P (suc i) → Q i) → ((p : ℕ) → Rule (f p) (L p) s Q)
-    → Rule (expect_at k >>= f) (Seq (IsMark k) L) (a_mark k ▸ s) P
+    → Rule (expect k >>= f) (Seq (IsMark k) L) (a_mark k ▸ s) P
 rule_key {s = s} {P = P} {Q = Q} k shorter here = rule_behind P (rule_mark {P = P} k) here (apart_none s.starts) (λ i p. p) (mark_shorter k P Q shorter)
 
 -- ---- by the first word
@@ -381,44 +349,22 @@ same_first test alike [] s t v w x e d = let q : s ≡ x ∷ v = e ∙ d in rw q
 same_first test alike (y ∷ ys) s t v w x e d = rw e (alike y (ys ++ (x ∷ w)) (ys ++ t))
 
 module _ {A : Type 0} (test : List Lexeme → Bool) (alike : (x : Lexeme) (s t : List Lexeme) → test (x ∷ s) ≡ test (x ∷ t)) (f g : Reader A) (L M : Language A) (s d : Shape) (P : ℕ → Type 0) (here : Rule f L s P) (there : Rule g M d P) where
-  branch_got : (z t : List Lexeme) (a : A) (v : Bool) → test z ≡ v → branch test f g z ≡ Ok (a, t) → Got (branch test f g) (Either L M) z a t
-  branch_got z t a true h e =
-      let one : Got f L z a t = here.got z t a (rw h at e) in
+  branch_took : (z : List Lexeme) (r : Outcome A) (v : Bool) → test z ≡ v → branch test f g z ≡ r → Took (branch test f g) (Either L M) z r
+  branch_took z r true h e =
+      let one : Took f L z r = here.took z r (rw h at e) in
       record {
         front = one.front;
         split = one.split;
-        gives = Either.in_left one.gives;
-        same = λ x v w d. rw (same_first test alike one.front z t v w x one.split d ∙ h) (one.same x v w d);
+        gives = goes_change L (Either L M) (λ u a l. Either.in_left l) one.front r one.gives;
+        same = λ x v w d. rw (same_first test alike one.front z (left r) v w x one.split d ∙ h) (one.same x v w d);
       }
-  branch_got z t a false h e =
-      let one : Got g M z a t = there.got z t a (rw h at e) in
+  branch_took z r false h e =
+      let one : Took g M z r = there.took z r (rw h at e) in
       record {
         front = one.front;
         split = one.split;
-        gives = Either.in_right one.gives;
-        same = λ x v w d. rw (same_first test alike one.front z t v w x one.split d ∙ h) (one.same x v w d);
-      }
-
-  branch_stuck : (z t : List Lexeme) (v : Bool) → test z ≡ v → branch test f g z ≡ Err t → Stuck (branch test f g) (Either L M) z t
-  branch_stuck z t true h e =
-      let one : Stuck f L z t = here.stuck z t (rw h at e) in
-      record {
-        front = one.front;
-        split = one.split;
-        more = one.more;
-        tree = one.tree;
-        gives = Either.in_left one.gives;
-        same = λ x v w d. rw (same_first test alike one.front z t v w x one.split d ∙ h) (one.same x v w d);
-      }
-  branch_stuck z t false h e =
-      let one : Stuck g M z t = there.stuck z t (rw h at e) in
-      record {
-        front = one.front;
-        split = one.split;
-        more = one.more;
-        tree = one.tree;
-        gives = Either.in_right one.gives;
-        same = λ x v w d. rw (same_first test alike one.front z t v w x one.split d ∙ h) (one.same x v w d);
+        gives = goes_change M (Either L M) (λ u a l. Either.in_right l) one.front r one.gives;
+        same = λ x v w d. rw (same_first test alike one.front z (left r) v w x one.split d ∙ h) (one.same x v w d);
       }
 
   branch_left : (z : List Lexeme) (a : A) (t : List Lexeme) → test z ≡ true → Whole f P z a t → Whole (branch test f g) P z a t
@@ -451,8 +397,7 @@ rule_branch {f = f} {g = g} {L = L} {M = M} {s = s} {d = d} {P = P} test alike s
   tree = here.tree;
   some = Either.in_left here.some;
   begins = branch_begins test alike f g L M s d P here there full;
-  got = λ u t a e. branch_got test alike f g L M s d P here there u t a (test u) refl e;
-  stuck = λ u t e. branch_stuck test alike f g L M s d P here there u t (test u) refl e;
+  took = λ u r e. branch_took test alike f g L M s d P here there u r (test u) refl e;
   whole = branch_whole test alike f g L M s d P here there seen unseen far;
 }
 
@@ -474,18 +419,17 @@ mark_unseen k [] st = refl
 mark_unseen k (x ∷ t) st = mark_unseen_at k x (is_mark k x.word) refl st
 
 pub rule_case : {A : Type 0} {f : ℕ → Reader A} {g : Reader A} {L : ℕ → Language A} {M : Language A} {s d : Shape} {P Q : ℕ → Type 0} (k : Mark) → ((i : ℕ) → P (suc i) → Q i)
-    → ((p : ℕ) → Rule (f p) (L p) s Q) → Rule g M d P → apart (only k) d.starts ≡ true → Rule (branch (sees k) (expect_at k >>= f) g) (Either (Seq (IsMark k) L) M) ((a_mark k ▸ s) ∥ d) P
+    → ((p : ℕ) → Rule (f p) (L p) s Q) → Rule g M d P → apart (only k) d.starts ≡ true → Rule (branch (sees k) (expect k >>= f) g) (Either (Seq (IsMark k) L) M) ((a_mark k ▸ s) ∥ d) P
 rule_case {L = L} k shorter here there far = rule_branch (sees k) (λ x u t. refl) (mark_seen k L) (mark_unseen k) refl (rule_key k shorter here) there far
 
 -- ---- nothing at all
 
 pub rule_refuse : {A : Type 0} {L : Language A} {s : Shape} {P : ℕ → Type 0} (u : List Lexeme) (a : A) → L u a → ((u : List Lexeme) (a : A) → L u a → Begins s u) → ((i : ℕ) → P i → ⊥) → Rule refuse L s P
-rule_refuse u a l begins none = record {
+rule_refuse {L = L} u a l begins none = record {
   words = u;
   tree = a;
   some = l;
   begins = begins;
-  got = λ s t b e. absurd (cc);
-  stuck = λ s t e. let q : s ≡ t = cc in record { front = []; split = q; more = u; tree = a; gives = l; same = λ x v w d. refl };
+  took = λ s r e. subst (λ z. Took refuse L s z) e (record { front = []; split = refl; gives = (u, a, l); same = λ x v w d. refl });
   whole = λ w b k t st. inr (record { front = []; rest = w ++ t; split = refl; stops = refl; late = none 0 });
 }

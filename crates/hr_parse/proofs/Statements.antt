@@ -14,13 +14,12 @@ use Rattle.hr_parse.specs.declared.word.Mark.TheVariants as m
 use Rattle.hr_parse.specs.declared.word.Sign.TheVariants as sg
 use Rattle.hr_parse.specs.declared.word.Lexeme.{Lexeme}
 use Rattle.hr_parse.specs.Words.{compare}
-use Rattle.hr_parse.specs.Readers.{Outcome, comparison, is_equal, expect_equal, sees_name}
+use Rattle.hr_parse.specs.Readers.{by_test, comparison, is_equal, equal_of, expect_equal, sees_name}
 use Rattle.hr_parse.specs.Grammar as g
 use Rattle.hr_parse.proofs.Shapes.{kind, Shape, word, a_mark, nothing, ◌▸◌, ◌∥◌, Begins}
-use Rattle.hr_parse.proofs.Rules.{Parts, less, rule_alike, rule_seq, rule_pure, rule_map, by_test, rule_test, when, Rule, rule_key, rule_case}
+use Rattle.hr_parse.proofs.Rules.{Parts, less, rule_seq, rule_pure, rule_map, rule_test, Rule, rule_key, rule_case}
 use Rattle.hr_parse.proofs.Operands.{Fits, parts, Holds, a_name, rule_name, rule_named, columns, rule_column, literals, rule_literal, lists, rule_listed, rule_optional, is_the_compare}
-use Rattle.hr_parse.proofs.Conditions.{conds, rule_condition}
-use Rattle.hr_parse.proofs.Expressions.{exprs, rule_expression}
+use Rattle.hr_parse.proofs.Nesting.{conds, rule_condition, exprs, rule_expression}
 
 -- ---- SELECT
 
@@ -150,37 +149,22 @@ rule_insert n =
     rule_key (m.Keyword kw.Into) p (λ _. rule_seq (parts 6 n) rule_name (λ table. rule_seq (parts 6 n) (rule_columns n)
     (λ columns. rule_key (m.Keyword kw.Values) p (λ _. rule_map (λ tuples. record { table = table; columns = columns; tuples = tuples }) (rule_listed (lit< tt) refl refl refl (rule_tuple n)))) refl) refl)
 
-abbrev equal_test : Lexeme → Option (Unit {0})
-equal_test x = when (is_equal (comparison x.word)) tt
-
-equal_alike_at : (b : Bool) (x : Lexeme) (s : List Lexeme) → (let r : Outcome (Unit {0}) = if b then Ok (tt, s) else Err (x ∷ s) in r) ≡ (elim (let o : Option (Unit {0}) = when b tt in o) [ Some a ↦ Ok (a, s) | None ↦ Err (x ∷ s) ])
-equal_alike_at true x s = refl
-equal_alike_at false x s = refl
-
-equal_alike : (s : List Lexeme) → expect_equal s ≡ by_test equal_test s
-equal_alike [] = refl
-equal_alike (x ∷ s) = equal_alike_at (is_equal (comparison x.word)) x s
-
-equal_op : (o : Option Op) (a : Unit {0}) → when (is_equal o) tt ≡ Some a → o ≡ Some op.Eq
+equal_op : (o : Option Op) (a : Unit {0}) → (if is_equal o then Some tt else None) ≡ Some a → o ≡ Some op.Eq
 equal_op (Some op.Eq) a e = refl
-equal_op (Some op.Ne) a e = absurd (cc)
-equal_op (Some op.Lt) a e = absurd (cc)
-equal_op (Some op.Le) a e = absurd (cc)
-equal_op (Some op.Gt) a e = absurd (cc)
-equal_op (Some op.Ge) a e = absurd (cc)
-equal_op None a e = absurd (cc)
+equal_op _ a e = absurd (cc)
 
-to_equal : (x : Lexeme) (a : Unit {0}) → equal_test x ≡ Some a → g.IsEqual (x ∷ []) a
+to_equal : (x : Lexeme) (a : Unit {0}) → equal_of x ≡ Some a → g.IsEqual (x ∷ []) a
 to_equal x a e = subst (λ z. g.IsEqual (z ∷ []) a) (sym (is_the_compare op.Eq x (equal_op (comparison x.word) a e))) (g.IsEqual.the x.at)
 
 equal_begins : (u : List Lexeme) (a : Unit {0}) → g.IsEqual u a → Begins (word (2 ∷ [])) u
 equal_begins u a (g.IsEqual.the p) = refl
 
-equal_read : (u : List Lexeme) (a : Unit {0}) → g.IsEqual u a → (t : List Lexeme) → by_test equal_test (u ++ t) ≡ Ok (a, t)
+equal_read : (u : List Lexeme) (a : Unit {0}) → g.IsEqual u a → (t : List Lexeme) → by_test equal_of (u ++ t) ≡ Ok (a, t)
 equal_read u a (g.IsEqual.the p) t = refl
 
 rule_equal : {P : ℕ → Type 0} → Rule expect_equal g.IsEqual (word (2 ∷ [])) P
-rule_equal {P} = rule_alike expect_equal equal_alike (rule_test {P = P} equal_test (2 ∷ []) (compare op.Eq 0) tt refl to_equal equal_begins equal_read)
+unfolding expect_equal
+rule_equal {P} = rule_test {P = P} equal_of (2 ∷ []) (compare op.Eq 0) tt refl to_equal equal_begins equal_read
 
 abbrev sets : Shape
 sets = a_name ▸ word (2 ∷ []) ▸ exprs

@@ -55,6 +55,11 @@ nothing = pure tt
 abbrev pub refuse : {A : Type 0} → Reader A
 refuse = λ words. Err words
 
+-- one word, of which a test gives this
+abbrev pub by_test : {A : Type 0} → (Lexeme → Option A) → Reader A
+by_test test [] = Err []
+by_test test (first ∷ rest) = elim (test first) [ Some a ↦ Ok (a, rest) | None ↦ Err (first ∷ rest) ]
+
 abbrev pub place : List Lexeme → ℕ
 place [] = 0
 place (first ∷ rest) = first.at
@@ -66,13 +71,8 @@ sees m (first ∷ rest) = is_mark m first.word
 abbrev pub after : Mark → List Lexeme → List Lexeme
 after m words = if sees m words then drop 1 words else words
 
-abbrev pub expect_at : Mark → Reader ℕ
-expect_at m = λ words. if sees m words then Ok (place words, drop 1 words) else Err words
-
--- what the taking of a mark ensures that has to come next
-abbrev pub Expects : Mark → List Lexeme → Result (Unit {0}) Stop → List Lexeme → Type 0
-Expects m old (Ok done) new = (sees m old ≡ true) × (new ≡ drop 1 old)
-Expects m old (Err stop) new = (sees m old ≡ false) × (new ≡ old) × (stop ≡ Unexpected)
+abbrev pub expect : Mark → Reader ℕ
+expect m = λ words. if sees m words then Ok (place words, drop 1 words) else Err words
 
 -- what the taking of a mark ensures, where it needn't come next
 abbrev pub Eats : Mark → List Lexeme → Option ℕ → List Lexeme → Type 0
@@ -88,10 +88,7 @@ ahead m f g = ahead_at m (λ _. f) g
 
 abbrev pub is_name : Word → Bool
 is_name (w.Name n) = true
-is_name (w.Fixed m) = false
-is_name (w.Number n) = false
-is_name (w.Text t) = false
-is_name (w.Compare o) = false
+is_name _ = false
 
 abbrev pub sees_name : List Lexeme → Bool
 sees_name [] = false
@@ -99,10 +96,7 @@ sees_name (first ∷ rest) = is_name first.word
 
 abbrev pub comparison : Word → Option Op
 comparison (w.Compare o) = Some o
-comparison (w.Fixed m) = None
-comparison (w.Name n) = None
-comparison (w.Number n) = None
-comparison (w.Text t) = None
+comparison _ = None
 
 abbrev pub sees_compare : List Lexeme → Option Op
 sees_compare [] = None
@@ -119,15 +113,13 @@ read_compare words = elim (sees_compare words) [ Some o ↦ Ok (o, drop 1 words)
 
 abbrev pub is_equal : Option Op → Bool
 is_equal (Some op.Eq) = true
-is_equal (Some op.Ne) = false
-is_equal (Some op.Lt) = false
-is_equal (Some op.Le) = false
-is_equal (Some op.Gt) = false
-is_equal (Some op.Ge) = false
-is_equal None = false
+is_equal _ = false
 
-abbrev pub expect_equal : Reader (Unit {0})
-expect_equal = λ words. if is_equal (sees_compare words) then Ok (tt, drop 1 words) else Err words
+abbrev pub equal_of : Lexeme → Option (Unit {0})
+equal_of first = if is_equal (comparison first.word) then Some tt else None
+
+unfoldable pub expect_equal : Reader (Unit {0})
+expect_equal = by_test equal_of
 
 abbrev pub expect_end : Reader (Unit {0})
 expect_end [] = Ok (tt, [])
@@ -135,15 +127,11 @@ expect_end (first ∷ rest) = Err (first ∷ rest)
 
 -- ---- names
 
-abbrev pub name_of : Lexeme → Reader NameAt
-name_of first = elim first.word [
-  | w.Name n ↦ (λ rest. Ok (record { name = n; at = first.at }, rest))
-  | _ ↦ (λ rest. Err (first ∷ rest))
-]
+abbrev pub name_of : Lexeme → Option NameAt
+name_of first = elim first.word [ | w.Name n ↦ Some (record { name = n; at = first.at }) | _ ↦ None ]
 
 unfoldable pub read_name : Reader NameAt
-read_name [] = Err []
-read_name (first ∷ rest) = name_of first rest
+read_name = by_test name_of
 
 -- ---- literals
 
@@ -157,41 +145,22 @@ plain n = if nat_lt n (2 ^ 63) then Some (pos n) else None
 -- the literal that a word is behind a sign, and without one
 abbrev pub negative_word : Word → Option LitAst
 negative_word (w.Number n) = option_map lit.Int (negated n)
-negative_word (w.Fixed m) = None
-negative_word (w.Name n) = None
-negative_word (w.Text t) = None
-negative_word (w.Compare o) = None
-
-abbrev pub unsigned_word : Word → Option LitAst
-unsigned_word (w.Number n) = option_map lit.Int (plain n)
-unsigned_word (w.Text t) = None
-unsigned_word (w.Fixed m) = None
-unsigned_word (w.Name n) = None
-unsigned_word (w.Compare o) = None
+negative_word _ = None
 
 abbrev pub constant_word : Word → Option LitAst
 constant_word (w.Number n) = option_map lit.Int (plain n)
 constant_word (w.Text t) = Some (lit.Text t)
-constant_word (w.Fixed m) = None
-constant_word (w.Name n) = None
-constant_word (w.Compare o) = None
+constant_word _ = None
 
--- a word of which the test says a literal, which gets this place
-abbrev pub literal_by : (Word → Option LitAst) → (Lexeme → ℕ) → Reader LiteralAst
-literal_by test at [] = Err []
-literal_by test at (first ∷ rest) = elim (test first.word) [
-  | Some value ↦ Ok (record { value = value; at = at first }, rest)
-  | None ↦ Err (first ∷ rest)
-]
+-- a literal with this value, and a place
+abbrev pub valued : ℕ → Option LitAst → Option LiteralAst
+valued at value = option_map (λ v. record { value = v; at = at }) value
 
 unfoldable pub negative : ℕ → Reader LiteralAst
-negative at = literal_by negative_word (λ _. at)
-
-unfoldable pub unsigned : Reader LiteralAst
-unsigned = literal_by unsigned_word (λ first. first.at)
+negative at = by_test (λ first. valued at (negative_word first.word))
 
 unfoldable pub constant : Reader LiteralAst
-constant = literal_by constant_word (λ first. first.at)
+constant = by_test (λ first. valued first.at (constant_word first.word))
 
 -- ---- lists of one or more, with commas between; the number bounds how many
 

@@ -17,7 +17,7 @@ impl<'a> Parser<'a> {
     fn tuple(&mut self, depth: usize) -> Result<TupleAst, Stop>
         ensures { Reads ((spec.tuple depth).reads self.old.rest.now) result self.new.rest.now }
     {
-        let at = self.expect_at(Mark::Sign(Sign::LeftParen))?;
+        let at = self.expect(Mark::Sign(Sign::LeftParen))?;
         let values = listed::<LiteralAst>(self, depth)?;
         self.expect(Mark::Sign(Sign::RightParen))?;
         Ok(TupleAst { values, at })
