@@ -2,19 +2,15 @@
 use Rattle.std.proofs.Common.{◌≡◌, ◌≤◌, ℕ, zero, suc, ◌+◌, ◌*◌, true, false, List, [], ◌∷◌, ◌++◌, refl, arith}
 use Rattle.hr_parse.specs.declared.ast.CondAst.{CondAst}
 use Rattle.hr_parse.specs.declared.ast.CondAst.TheVariants as cond_of
-use Rattle.hr_parse.specs.declared.ast.LitAst.TheVariants as lit
-use Rattle.hr_parse.specs.declared.ast.OperandAst.TheVariants as operand_of
 use Rattle.hr_lex.specs.declared.token.Keyword.TheVariants as kw
 use Rattle.hr_parse.specs.declared.word.Mark.TheVariants as m
 use Rattle.hr_parse.specs.declared.word.Sign.TheVariants as sg
 use Rattle.hr_parse.specs.declared.word.Lexeme.{Lexeme}
-use Rattle.hr_parse.specs.Words.{mark}
 use Rattle.hr_parse.specs.Grammar.{Language, IsMark, Gives, Seq, Map, Either, operand, among, range_or_list, check, predicate, IsNeg, IsConj, AndMore, IsCond, OrMore, read_neg, read_conj, conj_behind, read_cond, cond_behind, IsFactor, IsTerm, TimesMore, IsExpr, PlusMore, read_factor, read_term, term_behind, read_expr, expr_behind}
-use Rattle.hr_parse.proofs.Shapes.{kind, only, Shape, a_mark, nothing, ◌▸◌, ◌∥◌, Begins, begins_both, among_second}
+use Rattle.hr_parse.proofs.Shapes.{kind, only, Shape, ◌▸◌, ◌∥◌, Begins, begins_both, among_second}
 use Rattle.hr_parse.proofs.Rules.{Rule, rule_stops, rule_iso, rule_weak, rule_seq, rule_pure, rule_map, rule_key, rule_case, rule_refuse, less}
 use Rattle.hr_parse.proofs.Operands.{Fits, parts, predicates, rule_predicate, operands, rule_operand}
 use Rattle.hr_parse.specs.declared.ast.ExprAst.{ExprAst}
-use Rattle.hr_parse.specs.declared.ast.OperandAst.{OperandAst}
 use Rattle.hr_parse.specs.Trees.{sum, difference, product, placed, simple}
 
 -- ---- conditions, as parts put together

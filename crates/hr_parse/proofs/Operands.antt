@@ -6,10 +6,7 @@ use Rattle.std.proofs.lemmas.Bool.Decides.{nat_tests}
 use Rattle.hr_rel.specs.declared.expr.Op.{Op}
 use Rattle.hr_rel.specs.declared.expr.Op.TheVariants as op
 use Rattle.hr_parse.specs.declared.ast.NameAt.{NameAt}
-use Rattle.hr_parse.specs.declared.ast.ColumnAst.{ColumnAst}
-use Rattle.hr_parse.specs.declared.ast.CondAst.{CondAst}
 use Rattle.hr_parse.specs.declared.ast.CondAst.TheVariants as cond_of
-use Rattle.hr_parse.specs.declared.ast.LitAst.{LitAst}
 use Rattle.hr_parse.specs.declared.ast.LitAst.TheVariants as lit
 use Rattle.hr_parse.specs.declared.ast.LiteralAst.{LiteralAst}
 use Rattle.hr_parse.specs.declared.ast.OperandAst.{OperandAst}
@@ -23,10 +20,10 @@ use Rattle.hr_parse.specs.declared.word.Word.TheVariants as w
 use Rattle.hr_parse.specs.declared.word.Lexeme.{Lexeme}
 use Rattle.hr_parse.specs.Words.{mark, named, number, text, compare}
 use Rattle.hr_parse.specs.Trees.{minus}
-use Rattle.hr_parse.specs.Readers.{Outcome, Reader, ◌>>=◌, and_then, pure, refuse, place, sees, expect, ahead_at, by_test, name_of, read_name, is_name, sees_name, comparison, sees_compare, compares, read_compare, valued, negative_word, constant_word, negative, constant, listed_behind}
-use Rattle.hr_parse.specs.Grammar.{Language, Grammar, IsMark, IsCompare, Gives, Seq, Map, Either, Listed, optional, listed, IsName, IsNegative, IsConstant, column, literal, operand, between, among, nullity, range_or_list_of, range_or_list, check, predicate}
+use Rattle.hr_parse.specs.Readers.{Outcome, Reader, ◌>>=◌, and_then, pure, place, sees, expect, ahead_at, by_test, name_of, read_name, is_name, sees_name, comparison, sees_compare, compares, read_compare, valued, negative_word, constant_word, negative, constant, listed_behind}
+use Rattle.hr_parse.specs.Grammar.{Language, Grammar, IsMark, IsCompare, Gives, Seq, Map, Either, Listed, IsName, IsNegative, IsConstant, column, literal, operand, between, among, nullity, range_or_list_of, range_or_list, check, predicate}
 use Rattle.hr_parse.proofs.Shapes.{among as among_kinds, kind, apart, only, Shape, word, a_mark, nothing, ◌▸◌, ◌∥◌, Begins, Stops, inside, stops_inside}
-use Rattle.hr_parse.proofs.Rules.{Rule, Parts, less, rule_alike, rule_iso, rule_weak, rule_shape, rule_behind, rule_seq, rule_pure, rule_map, rule_test, test_read, branch, rule_branch, rule_mark, rule_key, rule_case, rule_refuse}
+use Rattle.hr_parse.proofs.Rules.{Rule, Parts, less, rule_alike, rule_iso, rule_weak, rule_shape, rule_seq, rule_pure, rule_map, rule_test, test_read, branch, rule_branch, rule_key, rule_case, rule_refuse}
 
 -- a length that the number of turns allows
 abbrev pub Fits : ℕ → ℕ → ℕ → Type 0

@@ -1,5 +1,5 @@
 -- What holds of a reader of a rule, and how it is put together from what holds of the rule's parts.
-use Rattle.std.proofs.Common.{◌≡◌, ◌⊎◌, inl, inr, ℕ, suc, ◌+◌, Bool, true, false, if◌then◌else◌, drop, List, [], ◌∷◌, ◌++◌, length, Option, Some, None, Ok, Err, ap, subst, refl, sym, ◌∙◌, arith, rules, append_assoc}
+use Rattle.std.proofs.Common.{◌≡◌, ◌⊎◌, inl, inr, ℕ, suc, ◌+◌, Bool, true, false, if◌then◌else◌, List, [], ◌∷◌, ◌++◌, length, Option, Some, None, Ok, Err, ap, subst, refl, sym, ◌∙◌, arith, rules, append_assoc}
 use Rattle.std.proofs.lemmas.List.{append-nil, length-append}
 use denote.Enum.Bare.{same_true, true_same}
 use Rattle.hr_lex.specs.contracts.token.Keyword as keywords
@@ -10,9 +10,9 @@ use Rattle.hr_parse.specs.declared.word.Word.{Word}
 use Rattle.hr_parse.specs.declared.word.Word.TheVariants as w
 use Rattle.hr_parse.specs.declared.word.Lexeme.{Lexeme}
 use Rattle.hr_parse.specs.Words.{same_mark, is_mark, mark}
-use Rattle.hr_parse.specs.Readers.{Outcome, Reader, and_then, ◌>>=◌, pure, refuse, by_test, place, sees, expect}
+use Rattle.hr_parse.specs.Readers.{Outcome, Reader, and_then, ◌>>=◌, pure, refuse, by_test, sees, expect}
 use Rattle.hr_parse.specs.Grammar.{Language, IsMark, Gives, Seq, Map, Either}
-use Rattle.hr_parse.proofs.Shapes.{kind, among, apart, apart_none, equal_self, only, Shape, word, a_mark, nothing, ◌▸◌, ◌∥◌, Begins, Stops, stops_none, stops_both, stops_neither, stops_before, inside, stops_inside, begins_as, begins_both, begins_first, begins_second}
+use Rattle.hr_parse.proofs.Shapes.{kind, apart, apart_none, equal_self, only, Shape, word, a_mark, nothing, ◌▸◌, ◌∥◌, Begins, Stops, stops_both, stops_neither, stops_before, inside, stops_inside, begins_as, begins_both, begins_first, begins_second}
 
 -- what is left of the words, and the same outcome with other words left
 abbrev pub left : {A : Type 0} → Outcome A → List Lexeme

@@ -1,8 +1,7 @@
 -- The readers of statements read what the grammar says.
-use Rattle.std.proofs.Common.{◌≡◌, ℕ, ◌+◌, Bool, true, false, if◌then◌else◌, List, [], ◌∷◌, ◌++◌, Option, Some, None, Ok, Err, refl, sym, subst, lit<}
+use Rattle.std.proofs.Common.{◌≡◌, ℕ, ◌+◌, true, if◌then◌else◌, List, [], ◌∷◌, ◌++◌, Option, Some, None, Ok, refl, sym, subst, lit<}
 use Rattle.hr_rel.specs.declared.expr.Op.{Op}
 use Rattle.hr_rel.specs.declared.expr.Op.TheVariants as op
-use Rattle.hr_parse.specs.declared.ast.Ast.{Ast}
 use Rattle.hr_parse.specs.declared.ast.AggWord.{AggWord}
 use Rattle.hr_parse.specs.declared.ast.NameAt.{NameAt}
 use Rattle.hr_parse.specs.declared.ast.Ast.TheVariants as ast_of
@@ -16,7 +15,7 @@ use Rattle.hr_parse.specs.declared.word.Lexeme.{Lexeme}
 use Rattle.hr_parse.specs.Words.{compare}
 use Rattle.hr_parse.specs.Readers.{by_test, comparison, is_equal, equal_of, expect_equal, sees_name}
 use Rattle.hr_parse.specs.Grammar as g
-use Rattle.hr_parse.proofs.Shapes.{kind, Shape, word, a_mark, nothing, ◌▸◌, ◌∥◌, Begins}
+use Rattle.hr_parse.proofs.Shapes.{Shape, word, a_mark, nothing, ◌▸◌, ◌∥◌, Begins}
 use Rattle.hr_parse.proofs.Rules.{Parts, less, rule_seq, rule_pure, rule_map, rule_test, Rule, rule_key, rule_case}
 use Rattle.hr_parse.proofs.Operands.{Fits, parts, Holds, a_name, rule_name, rule_named, columns, rule_column, literals, rule_literal, lists, rule_listed, rule_optional, is_the_compare}
 use Rattle.hr_parse.proofs.Nesting.{conds, rule_condition, exprs, rule_expression}

@@ -9,7 +9,7 @@ use Rattle.hr_parse.specs.declared.parsing.ParseError.{ParseError}
 use Rattle.hr_parse.specs.declared.parsing.ParseError.TheVariants as e
 use Rattle.hr_parse.specs.declared.word.Lexeme.{Lexeme}
 use Rattle.hr_parse.specs.Readers.{Outcome, Reader, Reads, alone}
-use Rattle.hr_parse.specs.Parse.{Begins, Refused, error, depth_for, moved, told, settled}
+use Rattle.hr_parse.specs.Parse.{Refused, error, depth_for, moved, told, settled}
 use Rattle.hr_parse.proofs.Shapes.{Shape}
 use Rattle.hr_parse.proofs.Rules.{Rule}
 use Rattle.hr_parse.proofs.Operands.{Fits}

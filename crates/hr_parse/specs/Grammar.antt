@@ -36,7 +36,7 @@ use Rattle.hr_parse.specs.declared.word.Sign.{Sign}
 use Rattle.hr_parse.specs.declared.word.Sign.TheVariants as sg
 use Rattle.hr_parse.specs.declared.word.Lexeme.{Lexeme}
 use Rattle.hr_parse.specs.Words.{mark, keyword, sign, named, number, text, compare}
-use Rattle.hr_parse.specs.Readers.{Reader, and_then, pure, refuse, place, sees, sees_name, compares, expect, expect_equal, read_compare, read_name, negative, constant, listed_behind}
+use Rattle.hr_parse.specs.Readers.{Reader, and_then, pure, refuse, sees, sees_name, compares, expect, expect_equal, read_compare, read_name, negative, constant, listed_behind}
 use Rattle.hr_parse.specs.Trees.{minus, sum, difference, product, placed, simple}
 
 -- which words are in a language, and with which tree

@@ -9,7 +9,6 @@ use Rattle.hr_parse.specs.declared.ast.LiteralAst.{LiteralAst}
 use Rattle.hr_parse.specs.declared.ast.NameAt.{NameAt}
 use Rattle.hr_parse.specs.declared.word.Mark.{Mark}
 use Rattle.hr_parse.specs.declared.word.Mark.TheVariants as m
-use Rattle.hr_lex.specs.declared.token.Keyword.TheVariants as kw
 use Rattle.hr_parse.specs.declared.word.Sign.TheVariants as sign_of
 use Rattle.hr_parse.specs.declared.word.Word.{Word}
 use Rattle.hr_parse.specs.declared.word.Word.TheVariants as w
@@ -48,9 +47,6 @@ p >> q = p >>= (λ _. q)
 
 abbrev pub pure : {A : Type 0} → A → Reader A
 pure a = λ words. Ok (a, words)
-
-abbrev pub nothing : Reader (Unit {0})
-nothing = pure tt
 
 abbrev pub refuse : {A : Type 0} → Reader A
 refuse = λ words. Err words
@@ -128,7 +124,7 @@ expect_end (first ∷ rest) = Err (first ∷ rest)
 -- ---- names
 
 abbrev pub name_of : Lexeme → Option NameAt
-name_of first = elim first.word [ | w.Name n ↦ Some (record { name = n; at = first.at }) | _ ↦ None ]
+name_of first = elim first.word [ w.Name n ↦ Some (record { name = n; at = first.at }) | _ ↦ None ]
 
 unfoldable pub read_name : Reader NameAt
 read_name = by_test name_of
@@ -179,4 +175,3 @@ alone f = do
   a ← f
   expect_end
   pure a
-
