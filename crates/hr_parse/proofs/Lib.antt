@@ -1,9 +1,7 @@
-pub mod Marks
+pub mod Shapes
 pub mod Rules
-pub mod Stops
 pub mod Operands
-pub mod Conditions
-pub mod Expressions
+pub mod Nesting
 pub mod Statements
 pub mod Whole
 pub mod Names

@@ -1,38 +1,39 @@
 -- What holds of a reader of a rule, and how it is put together from what holds of the rule's parts.
-use Rattle.std.proofs.Common.{◌≡◌, ◌⊎◌, inl, inr, ℕ, suc, ◌+◌, Bool, true, false, if◌then◌else◌, drop, List, [], ◌∷◌, ◌++◌, length, Option, Some, None, Ok, Err, ap, subst, refl, sym, ◌∙◌, arith, append_assoc}
+use Rattle.std.proofs.Common.{◌≡◌, ◌⊎◌, inl, inr, ℕ, suc, ◌+◌, Bool, true, false, if◌then◌else◌, List, [], ◌∷◌, ◌++◌, length, Option, Some, None, Ok, Err, ap, subst, refl, sym, ◌∙◌, arith, rules, append_assoc}
 use Rattle.std.proofs.lemmas.List.{append-nil, length-append}
+use denote.Enum.Bare.{same_true, true_same}
+use Rattle.hr_lex.specs.contracts.token.Keyword as keywords
+use Rattle.hr_parse.specs.contracts.word.Sign as signs
 use Rattle.hr_parse.specs.declared.word.Mark.{Mark}
-use Rattle.hr_rel.specs.declared.expr.Op.{Op}
-use Rattle.hr_rel.specs.declared.expr.Op.TheVariants as op
+use Rattle.hr_parse.specs.declared.word.Mark.TheVariants as m
 use Rattle.hr_parse.specs.declared.word.Word.{Word}
 use Rattle.hr_parse.specs.declared.word.Word.TheVariants as w
 use Rattle.hr_parse.specs.declared.word.Lexeme.{Lexeme}
-use Rattle.hr_parse.specs.Words.{is_mark, mark, compare}
-use Rattle.hr_parse.specs.Readers.{Outcome, Reader, and_then, ◌>>=◌, pure, refuse, place, sees, expect, ahead_at, sees_name, at_name, comparison, sees_compare, at_compare}
-use Rattle.hr_parse.proofs.Marks.{mark_self, is_the_mark}
+use Rattle.hr_parse.specs.Words.{same_mark, is_mark, mark}
+use Rattle.hr_parse.specs.Readers.{Outcome, Reader, and_then, ◌>>=◌, pure, refuse, by_test, sees, expect}
+use Rattle.hr_parse.specs.Grammar.{Language, IsMark, Gives, Seq, Map, Either}
+use Rattle.hr_parse.proofs.Shapes.{kind, apart, apart_none, equal_self, only, Shape, word, a_mark, nothing, ◌▸◌, ◌∥◌, Begins, Stops, stops_both, stops_neither, stops_before, inside, stops_inside, begins_as, begins_both, begins_first, begins_second}
 
--- what follows doesn't go on with such a word
-abbrev pub Stops : (Lexeme → Bool) → List Lexeme → Type 0
-Stops c [] = Unit {0}
-Stops c (x ∷ t) = c x ≡ false
+-- what is left of the words, and the same outcome with other words left
+abbrev pub left : {A : Type 0} → Outcome A → List Lexeme
+left (Ok p) = p.1
+left (Err t) = t
 
--- the outcome is that of any words that are the same up to the first that wasn't taken
-abbrev pub Same : {A : Type 0} → Reader A → List Lexeme → List Lexeme → (List Lexeme → Outcome A) → Type 0
-Same f front rest outcome = (x : Lexeme) (v w : List Lexeme) → rest ≡ x ∷ v → f (front ++ (x ∷ w)) ≡ outcome (x ∷ w)
+abbrev again : {A : Type 0} → Outcome A → List Lexeme → Outcome A
+again (Ok p) w = Ok (p.0, w)
+again (Err t) w = Err w
 
-pub record Got {A : Type 0} (f : Reader A) (L : List Lexeme → A → Type 0) (s : List Lexeme) (a : A) (t : List Lexeme) : Type 0 where
+-- what was taken is in the language, with that tree, or can go on to something in it
+abbrev Goes : {A : Type 0} → Language A → List Lexeme → Outcome A → Type 0
+Goes L front (Ok p) = L front p.0
+Goes {A} L front (Err t) = (more : List Lexeme) × (a : A) × L (front ++ more) a
+
+-- what the reader took for an outcome, which hangs on no word behind the first that it left
+pub record Took {A : Type 0} (f : Reader A) (L : Language A) (u : List Lexeme) (r : Outcome A) : Type 0 where
   pub front : List Lexeme
-  pub split : s ≡ front ++ t
-  pub gives : L front a
-  pub same : Same f front t (λ w. Ok (a, w))
-
-pub record Stuck {A : Type 0} (f : Reader A) (L : List Lexeme → A → Type 0) (s : List Lexeme) (t : List Lexeme) : Type 0 where
-  pub front : List Lexeme
-  pub split : s ≡ front ++ t
-  pub more : List Lexeme
-  pub tree : A
-  pub gives : L (front ++ more) tree
-  pub same : Same f front t (λ w. Err w)
+  pub split : u ≡ front ++ left r
+  pub gives : Goes L front r
+  pub same : (x : Lexeme) (v w : List Lexeme) → left r ≡ x ∷ v → f (front ++ (x ∷ w)) ≡ again r (x ∷ w)
 
 -- the reader stops where more turns than fit would be needed
 pub record Late {A : Type 0} (f : Reader A) (P : ℕ → Type 0) (s : List Lexeme) : Type 0 where
@@ -45,120 +46,96 @@ pub record Late {A : Type 0} (f : Reader A) (P : ℕ → Type 0) (s : List Lexem
 abbrev pub Whole : {A : Type 0} → Reader A → (ℕ → Type 0) → List Lexeme → A → List Lexeme → Type 0
 Whole f P s a t = (f s ≡ Ok (a, t)) ⊎ Late f P s
 
--- The reader reads the language: what it gives is in the language; where it stops, what it took can go on to
--- something in the language, and both depend on no word behind the first that wasn't taken. What is in the language
--- is read where what follows stops it, unless it takes more turns than fit.
-pub record Rule {A : Type 0} (f : Reader A) (L : List Lexeme → A → Type 0) (c : Lexeme → Bool) (P : ℕ → Type 0) : Type 0 where
+-- The reader reads the language. What is in it begins as the shape says, and is read where what follows doesn't go on with
+-- it, unless that takes more turns than fit.
+pub record Rule {A : Type 0} (f : Reader A) (L : Language A) (s : Shape) (P : ℕ → Type 0) : Type 0 where
   pub words : List Lexeme
   pub tree : A
   pub some : L words tree
-  pub got : (s t : List Lexeme) (a : A) → f s ≡ Ok (a, t) → Got f L s a t
-  pub stuck : (s t : List Lexeme) → f s ≡ Err t → Stuck f L s t
-  pub whole : (u : List Lexeme) (a : A) → L u a → (t : List Lexeme) → Stops c t → Whole f P (u ++ t) a t
+  pub begins : (u : List Lexeme) (a : A) → L u a → Begins s u
+  pub took : (u : List Lexeme) (r : Outcome A) → f u ≡ r → Took f L u r
+  pub whole : (u : List Lexeme) (a : A) → L u a → (t : List Lexeme) → Stops s.stops t → Whole f P (u ++ t) a t
 
--- ---- languages of the parts of rules
+-- ---- the same rule, otherwise
 
-pub data Seq {A B : Type 0} (L : List Lexeme → A → Type 0) (M : A → List Lexeme → B → Type 0) : List Lexeme → B → Type 0 where
-  seq : {u v : List Lexeme} {a : A} {b : B} → L u a → M a v b → Seq L M (u ++ v) b
+whole_change : {A : Type 0} {f : Reader A} {P Q : ℕ → Type 0} (g : Reader A) (u t : List Lexeme) (a : A) → g u ≡ f u → ((i : ℕ) → Q i → P i) → Whole f P u a t → Whole g Q u a t
+whole_change g u t a e fits (inl k) = inl (e ∙ k)
+whole_change g u t a e fits (inr k) = inr (record { front = k.front; rest = k.rest; split = k.split; stops = e ∙ k.stops; late = λ q. k.late (fits (length k.front) q) })
 
-pub data Map {A B : Type 0} (h : A → B) (L : List Lexeme → A → Type 0) : List Lexeme → B → Type 0 where
-  map : {u : List Lexeme} {a : A} → L u a → Map h L u (h a)
+goes_change : {A : Type 0} (L M : Language A) → ((u : List Lexeme) (a : A) → L u a → M u a) → (u : List Lexeme) (r : Outcome A) → Goes L u r → Goes M u r
+goes_change L M to u (Ok p) l = to u p.0 l
+goes_change L M to u (Err t) l = (l.0, l.1, to (u ++ l.0) l.1 l.2)
 
-pub data Done {A : Type 0} (a : A) : List Lexeme → A → Type 0 where
-  done : Done a [] a
-
-pub data IsMark (m : Mark) : List Lexeme → Unit {0} → Type 0 where
-  the : (p : ℕ) → IsMark m (mark m p ∷ []) tt
-
--- a mark with what L says behind it, or what M says
-pub data Ahead {A : Type 0} (m : Mark) (L : ℕ → List Lexeme → A → Type 0) (M : List Lexeme → A → Type 0) : List Lexeme → A → Type 0 where
-  this : (p : ℕ) {u : List Lexeme} {a : A} → L p u a → Ahead m L M (mark m p ∷ u) a
-  other : {u : List Lexeme} {a : A} → M u a → Ahead m L M u a
-
--- ---- a language by another
-
-pub rule_iso : {A : Type 0} {f : Reader A} {L M : List Lexeme → A → Type 0} {c : Lexeme → Bool} {P : ℕ → Type 0}
-    → ((u : List Lexeme) (a : A) → L u a → M u a) → ((u : List Lexeme) (a : A) → M u a → L u a) → Rule f L c P → Rule f M c P
-rule_iso to of r = record {
+-- a reader that is the same function, a language of the same words and trees, and fewer turns
+pub rule_change : {A : Type 0} {f : Reader A} {L M : Language A} {s : Shape} {P Q : ℕ → Type 0} (g : Reader A) → ((u : List Lexeme) → g u ≡ f u)
+    → ((u : List Lexeme) (a : A) → L u a → M u a) → ((u : List Lexeme) (a : A) → M u a → L u a) → ((i : ℕ) → Q i → P i) → Rule f L s P → Rule g M s Q
+rule_change {A} {f} {L} {M} g e to of fits r = record {
   words = r.words;
   tree = r.tree;
   some = to r.words r.tree r.some;
-  got = λ s t a e. let g = r.got s t a e in record { front = g.front; split = g.split; gives = to g.front a g.gives; same = g.same };
-  stuck = λ s t e. let g = r.stuck s t e in record { front = g.front; split = g.split; more = g.more; tree = g.tree; gives = to (g.front ++ g.more) g.tree g.gives; same = g.same };
-  whole = λ u a l t st. r.whole u a (of u a l) t st;
+  begins = λ u a l. r.begins u a (of u a l);
+  took = λ u o h. let k : Took f L u o = r.took u o (sym (e u) ∙ h) in record { front = k.front; split = k.split; gives = goes_change L M to k.front o k.gives; same = λ x v w d. e (k.front ++ (x ∷ w)) ∙ k.same x v w d };
+  whole = λ u a l t st. whole_change g (u ++ t) t a (e (u ++ t)) fits (r.whole u a (of u a l) t st);
 }
 
--- ---- outcomes
+pub rule_iso : {A : Type 0} {f : Reader A} {L M : Language A} {s : Shape} {P : ℕ → Type 0} → ((u : List Lexeme) (a : A) → L u a → M u a) → ((u : List Lexeme) (a : A) → M u a → L u a) → Rule f L s P → Rule f M s P
+rule_iso {f} to of r = rule_change f (λ u. refl) to of (λ i q. q) r
+
+pub rule_alike : {A : Type 0} {f : Reader A} {L : Language A} {s : Shape} {P : ℕ → Type 0} (g : Reader A) → ((u : List Lexeme) → g u ≡ f u) → Rule f L s P → Rule g L s P
+rule_alike g e r = rule_change g e (λ u a l. l) (λ u a l. l) (λ i q. q) r
+
+pub rule_weak : {A : Type 0} {f : Reader A} {L : Language A} {s : Shape} {P : ℕ → Type 0} (Q : ℕ → Type 0) → ((i : ℕ) → Q i → P i) → Rule f L s P → Rule f L s Q
+rule_weak {f} Q fits r = rule_change f (λ u. refl) (λ u a l. l) (λ u a l. l) fits r
+
+pub rule_shape : {A : Type 0} {f : Reader A} {L : Language A} {s : Shape} {P : ℕ → Type 0} (d : Shape) → ((u : List Lexeme) (a : A) → L u a → Begins d u) → ((t : List Lexeme) → Stops d.stops t → Stops s.stops t) → Rule f L s P → Rule f L d P
+rule_shape d begins stops r = record { words = r.words; tree = r.tree; some = r.some; begins = begins; took = r.took; whole = λ u a l t st. r.whole u a l t (stops t st) }
+
+-- with more words that may not follow
+pub rule_stops : {A : Type 0} {f : Reader A} {L : Language A} {s : Shape} {P : ℕ → Type 0} (d : Shape) → s.starts ≡ d.starts → s.empty ≡ d.empty → inside s.stops d.stops ≡ true → Rule f L s P → Rule f L d P
+rule_stops {s = s} d e h more r = rule_shape d (λ u a l. begins_as s d e h u (r.begins u a l)) (stops_inside s.stops d.stops more) r
 
 pub ok_parts : {A : Type 0} (a b : A) (s t : List Lexeme) → (let r : Outcome A = Ok (a, s) in r) ≡ Ok (b, t) → (a ≡ b) × (s ≡ t)
 ok_parts {A = A} a b s t e = let q : ◌≡◌ {A = A × List Lexeme} (a, s) (b, t) = cc in (ap (λ z. z.0) q, ap (λ z. z.1) q)
 
 -- ---- one rule behind another
 
-pub bind_ok : {A B : Type 0} (r : Outcome A) (g : A → Reader B) (y : B × List Lexeme) → and_then r g ≡ Ok y → (p : A × List Lexeme) × (r ≡ Ok p) × (g p.0 p.1 ≡ Ok y)
-bind_ok (Ok p) g y e = (p, refl, e)
-bind_ok (Err w) g y e = absurd (cc)
-
-pub bind_err : {A B : Type 0} (r : Outcome A) (g : A → Reader B) (t : List Lexeme) → and_then r g ≡ Err t → (r ≡ Err t) ⊎ ((p : A × List Lexeme) × (r ≡ Ok p) × (g p.0 p.1 ≡ Err t))
-bind_err (Ok p) g t e = inr (p, refl, e)
-bind_err (Err w) g t e = let q : w ≡ t = cc in inl (ap Err q)
-
 -- what was taken first is taken again, where the words are the same up to the first that the second didn't take
-carry : {A : Type 0} (f : Reader A) (u : List Lexeme) (a : A) (s v t : List Lexeme) (x : Lexeme) (r w : List Lexeme)
-    → Same f u s (λ w. Ok (a, w)) → s ≡ v ++ t → t ≡ x ∷ r → f (u ++ (v ++ (x ∷ w))) ≡ Ok (a, v ++ (x ∷ w))
-carry f u a s [] t x r w same e d = same x r w (e ∙ d)
-carry f u a s (y ∷ ys) t x r w same e d = same y (ys ++ t) (ys ++ (x ∷ w)) e
+carry : {A : Type 0} (f : Reader A) (L : Language A) (u : List Lexeme) (p : A × List Lexeme) (one : Took f L u (Ok p)) (v t : List Lexeme) (x : Lexeme) (r w : List Lexeme)
+    → p.1 ≡ v ++ t → t ≡ x ∷ r → f (one.front ++ (v ++ (x ∷ w))) ≡ Ok (p.0, v ++ (x ∷ w))
+carry f L u p one [] t x r w e d = one.same x r w (e ∙ d)
+carry f L u p one (y ∷ ys) t x r w e d = one.same y (ys ++ t) (ys ++ (x ∷ w)) e
 
-module _ {A B : Type 0} (f : Reader A) (g : A → Reader B) (L : List Lexeme → A → Type 0) (M : A → List Lexeme → B → Type 0) (c d : Lexeme → Bool) (P Q R : ℕ → Type 0) where
-  seq_same : (u v : List Lexeme) (a : A) (s t : List Lexeme) (outcome : List Lexeme → Outcome B) → Same f u s (λ w. Ok (a, w)) → s ≡ v ++ t → Same (g a) v t outcome
-      → Same (f >>= g) (u ++ v) t outcome
-  seq_same u v a s t outcome first e second x r w d = rw (append_assoc u v (x ∷ w), carry f u a s v t x r w first e d) (second x r w d)
+goes_seq : {A B : Type 0} (L : Language A) (M : A → Language B) (u v : List Lexeme) (a : A) (r : Outcome B) → L u a → Goes (M a) v r → Goes (Seq L M) (u ++ v) r
+goes_seq L M u v a (Ok p) l k = Seq.seq l k
+goes_seq L M u v a (Err t) l k = (k.0, k.1, subst (λ (z : List Lexeme). Seq L M z k.1) (sym (append_assoc u v k.0)) (Seq.seq l k.2))
 
-  seq_got : Rule f L c P → ((a : A) → Rule (g a) (M a) d Q) → (s t : List Lexeme) (b : B) → (f >>= g) s ≡ Ok (b, t) → Got (f >>= g) (Seq L M) s b t
-  seq_got first second s t b e =
-      let k = bind_ok (f s) g (b, t) e in
-      let a : A = k.0.0 in
-      let m : List Lexeme = k.0.1 in
-      let one : Got f L s a m = first.got s m a k.1 in
-      let two : Got (g a) (M a) m b t = (second a).got m t b k.2 in
-      record {
-        front = one.front ++ two.front;
-        split = one.split ∙ (ap (λ z. one.front ++ z) two.split ∙ sym (append_assoc one.front two.front t));
-        gives = Seq.seq one.gives two.gives;
-        same = seq_same one.front two.front a m t (λ w. Ok (b, w)) one.same two.split two.same;
-      }
-
-  stuck_first : Rule f L c P → ((a : A) → Rule (g a) (M a) d Q) → (s t : List Lexeme) → f s ≡ Err t → Stuck (f >>= g) (Seq L M) s t
-  stuck_first first second s t e =
-      let one : Stuck f L s t = first.stuck s t e in
-      let next : Rule (g one.tree) (M one.tree) d Q = second one.tree in
+module _ {A B : Type 0} (f : Reader A) (g : A → Reader B) (L : Language A) (M : A → Language B) (k d : Shape) (P Q R : ℕ → Type 0) (first : Rule f L k P) (second : (a : A) → Rule (g a) (M a) d Q) where
+  took_first : (s t : List Lexeme) → f s ≡ Err t → Took (f >>= g) (Seq L M) s (Err t)
+  took_first s t e =
+      let one : Took f L s (Err t) = first.took s (Err t) e in
+      let tree : A = one.gives.1 in
+      let next : Rule (g tree) (M tree) d Q = second tree in
       record {
         front = one.front;
         split = one.split;
-        more = one.more ++ next.words;
-        tree = next.tree;
-        gives = subst (λ (z : List Lexeme). Seq L M z next.tree) (append_assoc one.front one.more next.words) (Seq.seq one.gives next.some);
+        gives = (one.gives.0 ++ next.words, next.tree, subst (λ (z : List Lexeme). Seq L M z next.tree) (append_assoc one.front one.gives.0 next.words) (Seq.seq one.gives.2 next.some));
         same = λ x v w h. rw (one.same x v w h) refl;
       }
 
-  stuck_second : Rule f L c P → ((a : A) → Rule (g a) (M a) d Q) → (s t : List Lexeme) (a : A) (m : List Lexeme) → f s ≡ Ok (a, m) → g a m ≡ Err t → Stuck (f >>= g) (Seq L M) s t
-  stuck_second first second s t a m e h =
-      let one : Got f L s a m = first.got s m a e in
-      let two : Stuck (g a) (M a) m t = (second a).stuck m t h in
+  took_second : (s : List Lexeme) (p : A × List Lexeme) (r : Outcome B) → f s ≡ Ok p → g p.0 p.1 ≡ r → Took (f >>= g) (Seq L M) s r
+  took_second s p r e h =
+      let one : Took f L s (Ok p) = first.took s (Ok p) e in
+      let two : Took (g p.0) (M p.0) p.1 r = (second p.0).took p.1 r h in
       record {
         front = one.front ++ two.front;
-        split = one.split ∙ (ap (λ z. one.front ++ z) two.split ∙ sym (append_assoc one.front two.front t));
-        more = two.more;
-        tree = two.tree;
-        gives = subst (λ (z : List Lexeme). Seq L M z two.tree) (sym (append_assoc one.front two.front two.more)) (Seq.seq one.gives two.gives);
-        same = seq_same one.front two.front a m t (λ w. Err w) one.same two.split two.same;
+        split = one.split ∙ (ap (λ z. one.front ++ z) two.split ∙ sym (append_assoc one.front two.front (left r)));
+        gives = goes_seq L M one.front two.front p.0 r one.gives two.gives;
+        same = λ x v w q. rw (append_assoc one.front two.front (x ∷ w), carry f L s p one two.front (left r) x v w two.split q) (two.same x v w q);
       }
 
-  seq_stuck : Rule f L c P → ((a : A) → Rule (g a) (M a) d Q) → (s t : List Lexeme) → (f >>= g) s ≡ Err t → Stuck (f >>= g) (Seq L M) s t
-  seq_stuck first second s t e = elim (bind_err (f s) g t e) [
-    | inl h ↦ stuck_first first second s t h
-    | inr k ↦ stuck_second first second s t k.0.0 k.0.1 k.1 k.2
-  ]
+  seq_took_by : (s : List Lexeme) (r : Outcome B) (o : Outcome A) → f s ≡ o → and_then o g ≡ r → Took (f >>= g) (Seq L M) s r
+  seq_took_by s r (Ok p) h e = took_second s p r h e
+  seq_took_by s r (Err t) h e = subst (λ z. Took (f >>= g) (Seq L M) s z) e (took_first s t h)
 
   seq_later : (u m : List Lexeme) (a : A) (b : B) (t : List Lexeme) → f (u ++ m) ≡ Ok (a, m) → ((j : ℕ) → R (length u + j) → Q j) → Whole (g a) Q m b t → Whole (f >>= g) R (u ++ m) b t
   seq_later u m a b t e behind (inl k) = inl (rw e k)
@@ -181,167 +158,137 @@ module _ {A B : Type 0} (f : Reader A) (g : A → Reader B) (L : List Lexeme →
     late = λ r. k.late (before (length k.front) r);
   })
 
-  seq_whole : Rule f L c P → ((a : A) → Rule (g a) (M a) d Q) → ((i : ℕ) → R i → P i) → ((u : List Lexeme) (a : A) → L u a → (j : ℕ) → R (length u + j) → Q j)
-      → ((a : A) (v : List Lexeme) (b : B) (t : List Lexeme) → M a v b → Stops d t → Stops c (v ++ t))
-      → (w : List Lexeme) (b : B) → Seq L M w b → (t : List Lexeme) → Stops d t → Whole (f >>= g) R (w ++ t) b t
-  seq_whole first second before behind follows w b (Seq.seq {u} {v} {a} l m) t st =
-      let k : Whole (f >>= g) R (u ++ (v ++ t)) b t = seq_read u (v ++ t) a b t before (behind u a l) (first.whole u a l (v ++ t) (follows a v b t m st)) ((second a).whole v b m t st) in
-      subst (λ (z : List Lexeme). Whole (f >>= g) R z b t) (sym (append_assoc u v t)) k
+  seq_begins : (w : List Lexeme) (b : B) → Seq L M w b → Begins (k ▸ d) w
+  seq_begins w b (Seq.seq {u} {v} {a} l m) = begins_both k d u v (first.begins u a l) ((second a).begins v b m)
+
+  seq_whole : apart k.stops d.starts ≡ true → ((i : ℕ) → R i → P i) → ((u : List Lexeme) (a : A) → L u a → (j : ℕ) → R (length u + j) → Q j)
+      → (w : List Lexeme) (b : B) → Seq L M w b → (t : List Lexeme) → Stops (k ▸ d).stops t → Whole (f >>= g) R (w ++ t) b t
+  seq_whole far before behind w b (Seq.seq {u} {v} {a} l m) t st =
+      let st = stops_both d.empty d.stops k.stops t st in
+      let ahead = stops_before k.stops d v t far ((second a).begins v b m) st.1 in
+      let z : Whole (f >>= g) R (u ++ (v ++ t)) b t = seq_read u (v ++ t) a b t before (behind u a l) (first.whole u a l (v ++ t) ahead) ((second a).whole v b m t st.0) in
+      subst (λ (y : List Lexeme). Whole (f >>= g) R y b t) (sym (append_assoc u v t)) z
 
 -- the lengths of the parts, where that of the first is known from what it says
-rule_behind : {A B : Type 0} {f : Reader A} {g : A → Reader B} {L : List Lexeme → A → Type 0} {M : A → List Lexeme → B → Type 0} {c d : Lexeme → Bool} {P Q : ℕ → Type 0} (R : ℕ → Type 0)
-    → Rule f L c P → ((a : A) → Rule (g a) (M a) d Q) → ((i : ℕ) → R i → P i) → ((u : List Lexeme) (a : A) → L u a → (j : ℕ) → R (length u + j) → Q j)
-    → ((a : A) (v : List Lexeme) (b : B) (t : List Lexeme) → M a v b → Stops d t → Stops c (v ++ t)) → Rule (f >>= g) (Seq L M) d R
-rule_behind {f = f} {g = g} {L = L} {M = M} {c = c} {d = d} {P = P} {Q = Q} R first second before behind follows = record {
+pub rule_behind : {A B : Type 0} {f : Reader A} {g : A → Reader B} {L : Language A} {M : A → Language B} {s d : Shape} {P Q : ℕ → Type 0} (R : ℕ → Type 0)
+    → Rule f L s P → ((a : A) → Rule (g a) (M a) d Q) → apart s.stops d.starts ≡ true → ((i : ℕ) → R i → P i) → ((u : List Lexeme) (a : A) → L u a → (j : ℕ) → R (length u + j) → Q j)
+    → Rule (f >>= g) (Seq L M) (s ▸ d) R
+rule_behind {A} {B} {f} {g} {L} {M} {s} {d} {P} {Q} R first second far before behind = record {
   words = first.words ++ (second first.tree).words;
   tree = (second first.tree).tree;
   some = Seq.seq first.some (second first.tree).some;
-  got = seq_got f g L M c d P Q R first second;
-  stuck = seq_stuck f g L M c d P Q R first second;
-  whole = seq_whole f g L M c d P Q R first second before behind follows;
+  begins = seq_begins f g L M s d P Q R first second;
+  took = λ u r e. seq_took_by f g L M s d P Q R first second u r (f u) refl e;
+  whole = seq_whole f g L M s d P Q R first second far before behind;
 }
 
-pub rule_seq : {A B : Type 0} {f : Reader A} {g : A → Reader B} {L : List Lexeme → A → Type 0} {M : A → List Lexeme → B → Type 0} {c d : Lexeme → Bool} {P Q : ℕ → Type 0} (R : ℕ → Type 0)
-    → Rule f L c P → ((a : A) → Rule (g a) (M a) d Q) → ((i j : ℕ) → R (i + j) → P i × Q j)
-    → ((a : A) (v : List Lexeme) (b : B) (t : List Lexeme) → M a v b → Stops d t → Stops c (v ++ t)) → Rule (f >>= g) (Seq L M) d R
-rule_seq R first second parts follows =
-    rule_behind R first second (λ i r. let same : i ≡ i + 0 = omega arith in (parts i 0 (subst R same r)).0) (λ u a l j r. (parts (length u) j r).1) follows
+-- what fits a whole fits its parts
+abbrev pub Parts : (ℕ → Type 0) → Type 0
+Parts P = (i j : ℕ) → P (i + j) → P i × P j
+
+pub less : {P : ℕ → Type 0} → Parts P → (i : ℕ) → P (suc i) → P i
+less {P} parts i p = let same : suc i ≡ 1 + i = omega arith in (parts 1 i (subst P same p)).1
+
+pub rule_seq : {A B : Type 0} {f : Reader A} {g : A → Reader B} {L : Language A} {M : A → Language B} {s d : Shape} {P : ℕ → Type 0}
+    → Parts P → Rule f L s P → ((a : A) → Rule (g a) (M a) d P) → apart s.stops d.starts ≡ true → Rule (f >>= g) (Seq L M) (s ▸ d) P
+rule_seq {P} parts first second far =
+    rule_behind P first second far (λ i r. let same : i ≡ i + 0 = omega arith in (parts i 0 (subst P same r)).0) (λ u a l j r. (parts (length u) j r).1)
 
 -- ---- nothing
 
-pure_got : {A : Type 0} (a : A) (s t : List Lexeme) (b : A) → pure a s ≡ Ok (b, t) → Got (pure a) (Done a) s b t
-pure_got a s t b e =
-    let k = ok_parts a b s t e in
-    record { front = []; split = k.1; gives = subst (λ z. Done a [] z) k.0 Done.done; same = λ x v w d. ap (λ z. Ok (z, x ∷ w)) k.0 }
+pure_whole : {A : Type 0} (a : A) (u : List Lexeme) (b : A) → Gives a u b → (t : List Lexeme) → pure a (u ++ t) ≡ Ok (b, t)
+pure_whole a u b Gives.nothing t = refl
 
-pure_whole : {A : Type 0} (a : A) (u : List Lexeme) (b : A) → Done a u b → (t : List Lexeme) → pure a (u ++ t) ≡ Ok (b, t)
-pure_whole a u b Done.done t = refl
+gives_begins : {A : Type 0} (a : A) (u : List Lexeme) (b : A) → Gives a u b → Begins nothing u
+gives_begins a u b Gives.nothing = refl
 
-pub rule_pure : {A : Type 0} {c : Lexeme → Bool} {P : ℕ → Type 0} (a : A) → Rule (pure a) (Done a) c P
+pub rule_pure : {A : Type 0} {P : ℕ → Type 0} (a : A) → Rule (pure a) (Gives a) nothing P
 rule_pure a = record {
   words = [];
   tree = a;
-  some = Done.done;
-  got = λ s t b e. pure_got a s t b e;
-  stuck = λ s t e. absurd (cc);
+  some = Gives.nothing;
+  begins = gives_begins a;
+  took = λ s r e. subst (λ z. Took (pure a) (Gives a) s z) e (record { front = []; split = refl; gives = Gives.nothing; same = λ x v w d. refl });
   whole = λ u b l t st. inl (pure_whole a u b l t);
 }
 
 -- ---- a rule with its tree put into another
 
-to_map : {A B : Type 0} (h : A → B) (L : List Lexeme → A → Type 0) (u : List Lexeme) (b : B) → Seq L (λ a. Done (h a)) u b → Map h L u b
-to_map h L w b (Seq.seq {u} {a} l Done.done) = subst (λ z. Map h L z (h a)) (sym (append-nil u)) (Map.map l)
+to_map : {A B : Type 0} (h : A → B) (L : Language A) (u : List Lexeme) (b : B) → Seq L (λ a. Gives (h a)) u b → Map h L u b
+to_map h L w b (Seq.seq {u} {a} l Gives.nothing) = subst (λ z. Map h L z (h a)) (sym (append-nil u)) (Map.map l)
 
-of_map : {A B : Type 0} (h : A → B) (L : List Lexeme → A → Type 0) (u : List Lexeme) (b : B) → Map h L u b → Seq L (λ a. Done (h a)) u b
+of_map : {A B : Type 0} (h : A → B) (L : Language A) (u : List Lexeme) (b : B) → Map h L u b → Seq L (λ a. Gives (h a)) u b
 of_map h L w b (Map.map {u} {a} l) =
-    let k : Seq L (λ a. Done (h a)) (u ++ []) (h a) = Seq.seq l Done.done in
-    subst (λ z. Seq L (λ a. Done (h a)) z (h a)) (append-nil u) k
+    let k : Seq L (λ a. Gives (h a)) (u ++ []) (h a) = Seq.seq l Gives.nothing in
+    subst (λ z. Seq L (λ a. Gives (h a)) z (h a)) (append-nil u) k
 
-done_stops : {A : Type 0} (c : Lexeme → Bool) (a : A) (v : List Lexeme) (b : A) (t : List Lexeme) → Done a v b → Stops c t → Stops c (v ++ t)
-done_stops c a v b t Done.done st = st
+map_begins : {A B : Type 0} (h : A → B) (L : Language A) (s : Shape) → ((u : List Lexeme) (a : A) → L u a → Begins s u) → (u : List Lexeme) (b : B) → Map h L u b → Begins s u
+map_begins h L s e w b (Map.map {u} {a} l) = e u a l
 
-pub rule_map : {A B : Type 0} {f : Reader A} {L : List Lexeme → A → Type 0} {c : Lexeme → Bool} {P : ℕ → Type 0} (h : A → B) → Rule f L c P
-    → Rule (f >>= (λ a. pure (h a))) (Map h L) c P
-rule_map {L = L} {c = c} {P = P} h r = rule_iso (to_map h L) (of_map h L)
-    (rule_behind P r (λ a. rule_pure {c = c} {P = λ _. Unit {0}} (h a)) (λ i p. p) (λ u a l j p. tt) (λ a v b t l st. done_stops c (h a) v b t l st))
+map_whole : {A B : Type 0} (f : Reader A) (h : A → B) (P : ℕ → Type 0) (u : List Lexeme) (a : A) (t : List Lexeme) → Whole f P u a t → Whole (f >>= (λ a. pure (h a))) P u (h a) t
+map_whole f h P u a t (inl e) = inl (rw e refl)
+map_whole f h P u a t (inr k) = inr (record { front = k.front; rest = k.rest; split = k.split; stops = rw (k.stops) refl; late = k.late })
 
--- ---- other stops and lengths
+of_whole : {A B : Type 0} {f : Reader A} {L : Language A} {s : Shape} {P : ℕ → Type 0} (h : A → B) → Rule f L s P
+    → (u : List Lexeme) (b : B) → Map h L u b → (t : List Lexeme) → Stops s.stops t → Whole (f >>= (λ a. pure (h a))) P (u ++ t) b t
+of_whole {f = f} {P = P} h r w b (Map.map {u} {a} l) t st = map_whole f h P (u ++ t) a t (r.whole u a l t st)
 
-weak_read : {A : Type 0} {f : Reader A} {P Q : ℕ → Type 0} {s : List Lexeme} {a : A} {t : List Lexeme} → ((i : ℕ) → Q i → P i) → Whole f P s a t → Whole f Q s a t
-weak_read fits (inl e) = inl e
-weak_read fits (inr k) = inr (record { front = k.front; rest = k.rest; split = k.split; stops = k.stops; late = λ q. k.late (fits (length k.front) q) })
-
-pub rule_weak : {A : Type 0} {f : Reader A} {L : List Lexeme → A → Type 0} {c : Lexeme → Bool} {P : ℕ → Type 0} (d : Lexeme → Bool) (Q : ℕ → Type 0)
-    → ((t : List Lexeme) → Stops d t → Stops c t) → ((i : ℕ) → Q i → P i) → Rule f L c P → Rule f L d Q
-rule_weak d Q stops fits r = record {
-  words = r.words;
-  tree = r.tree;
-  some = r.some;
-  got = r.got;
-  stuck = r.stuck;
-  whole = λ u a l t st. weak_read fits (r.whole u a l t (stops t st));
-}
-
--- stopped by nothing
-abbrev pub never : Lexeme → Bool
-never x = false
-
-pub never_stops : (t : List Lexeme) → Stops never t
-never_stops [] = tt
-never_stops (x ∷ t) = refl
+pub rule_map : {A B : Type 0} {f : Reader A} {L : Language A} {s : Shape} {P : ℕ → Type 0} (h : A → B) → Rule f L s P → Rule (f >>= (λ a. pure (h a))) (Map h L) s P
+rule_map {L = L} {s = s} {P = P} h r =
+    let both = rule_iso (to_map h L) (of_map h L) (rule_behind P r (λ a. rule_pure {P = λ _. Unit {0}} (h a)) refl (λ i p. p) (λ u a l j p. tt)) in
+    record { words = both.words; tree = both.tree; some = both.some; begins = map_begins h L s r.begins; took = both.took; whole = of_whole h r }
 
 -- ---- one word by a test
 
-abbrev pub by_test : {A : Type 0} → (Lexeme → Option A) → Reader A
-by_test test [] = Err []
-by_test test (x ∷ rest) = elim (test x) [ Some a ↦ Ok (a, rest) | None ↦ Err (x ∷ rest) ]
+module _ {A : Type 0} (test : Lexeme → Option A) (L : Language A) (to : (x : Lexeme) (a : A) → test x ≡ Some a → L (x ∷ []) a) (y : Lexeme) (b : A) (example : test y ≡ Some b) where
+  test_word : (x : Lexeme) (s : List Lexeme) (v : Option A) → test x ≡ v → Took (by_test test) L (x ∷ s) (elim v [ Some a ↦ Ok (a, s) | None ↦ Err (x ∷ s) ])
+  test_word x s (Some a) h = record { front = x ∷ []; split = refl; gives = to x a h; same = λ o v w q. rw (h, by_test) refl }
+  test_word x s None h = record {
+    front = [];
+    split = refl;
+    gives = (y ∷ [], b, to y b example);
+    same = λ o v w d. let first : x ≡ o = cc in let other : by_test test (x ∷ w) ≡ Err (x ∷ w) = rw (h, by_test) refl in subst (λ z. by_test test (z ∷ w) ≡ Err (z ∷ w)) first other;
+  }
 
-pub data Tested {A : Type 0} (test : Lexeme → Option A) : List Lexeme → A → Type 0 where
-  tested : (x : Lexeme) (a : A) → test x ≡ Some a → Tested test (x ∷ []) a
+  test_took : (s : List Lexeme) → Took (by_test test) L s (by_test test s)
+  test_took [] = record { front = []; split = refl; gives = (y ∷ [], b, to y b example); same = λ o v w d. absurd (cc) }
+  test_took (x ∷ s) = test_word x s (test x) refl
 
-module _ {A : Type 0} (test : Lexeme → Option A) (y : Lexeme) (b : A) (example : test y ≡ Some b) where
-  test_got : (x : Lexeme) (s t : List Lexeme) (a : A) (v : Option A) → test x ≡ v → by_test test (x ∷ s) ≡ Ok (a, t) → Got (by_test test) (Tested test) (x ∷ s) a t
-  test_got x s t a None h e = let z = rw (h, by_test) at e in absurd (cc)
-  test_got x s t a (Some d) h e =
-      let k = ok_parts d a s t (rw (h, by_test) at e) in
-      record {
-        front = x ∷ [];
-        split = ap (λ z. x ∷ z) k.1;
-        gives = Tested.tested x a (h ∙ ap Some k.0);
-        same = λ o v w q. rw (h ∙ ap Some k.0, by_test) refl;
-      }
-
-  test_all : (s t : List Lexeme) (a : A) → by_test test s ≡ Ok (a, t) → Got (by_test test) (Tested test) s a t
-  test_all [] t a e = absurd (cc)
-  test_all (x ∷ s) t a e = test_got x s t a (test x) refl e
-
-  test_refused : (x : Lexeme) (s t : List Lexeme) (v : Option A) → test x ≡ v → by_test test (x ∷ s) ≡ Err t → Stuck (by_test test) (Tested test) (x ∷ s) t
-  test_refused x s t (Some d) h e = let z = rw (h, by_test) at e in absurd (cc)
-  test_refused x s t None h e =
-      let z = rw (h, by_test) at e in
-      let q : (x ∷ s) ≡ t = cc in
-      record {
-        front = [];
-        split = q;
-        more = y ∷ [];
-        tree = b;
-        gives = Tested.tested y b example;
-        same = λ o v r d. let first : x ≡ o = cc in let again : by_test test (x ∷ r) ≡ Err (x ∷ r) = rw (h, by_test) refl in subst (λ z. by_test test (z ∷ r) ≡ Err (z ∷ r)) first again;
-      }
-
-  test_stuck : (s t : List Lexeme) → by_test test s ≡ Err t → Stuck (by_test test) (Tested test) s t
-  test_stuck [] t e = let q : [] ≡ t = cc in record { front = []; split = q; more = y ∷ []; tree = b; gives = Tested.tested y b example; same = λ o v w d. absurd (cc) }
-  test_stuck (x ∷ s) t e = test_refused x s t (test x) refl e
-
-test_whole : {A : Type 0} (test : Lexeme → Option A) (u : List Lexeme) (a : A) → Tested test u a → (t : List Lexeme) → by_test test (u ++ t) ≡ Ok (a, t)
-test_whole test u b (Tested.tested x a h) t = rw (h, by_test) refl
-
-pub rule_test : {A : Type 0} {c : Lexeme → Bool} {P : ℕ → Type 0} (test : Lexeme → Option A) (y : Lexeme) (b : A) → test y ≡ Some b → Rule (by_test test) (Tested test) c P
-rule_test test y b example = record {
+-- a word that passes a test, which is one of these kinds, and is in the language just then
+pub rule_test : {A : Type 0} {L : Language A} {P : ℕ → Type 0} (test : Lexeme → Option A) (kinds : List ℕ) (y : Lexeme) (b : A) → test y ≡ Some b → ((x : Lexeme) (a : A) → test x ≡ Some a → L (x ∷ []) a)
+    → ((u : List Lexeme) (a : A) → L u a → Begins (word kinds) u) → ((u : List Lexeme) (a : A) → L u a → (t : List Lexeme) → by_test test (u ++ t) ≡ Ok (a, t)) → Rule (by_test test) L (word kinds) P
+rule_test {L = L} test kinds y b example to begins read = record {
   words = y ∷ [];
   tree = b;
-  some = Tested.tested y b example;
-  got = test_all test y b example;
-  stuck = test_stuck test y b example;
-  whole = λ u a l t st. inl (test_whole test u a l t);
+  some = to y b example;
+  begins = begins;
+  took = λ s r e. subst (λ z. Took (by_test test) L s z) e (test_took test L to y b example s);
+  whole = λ u a l t st. inl (read u a l t);
 }
 
--- a reader that is the same function
-alike_read : {A : Type 0} {f : Reader A} {P : ℕ → Type 0} (g : Reader A) → ((s : List Lexeme) → g s ≡ f s) → (s : List Lexeme) (a : A) (t : List Lexeme) → Whole f P s a t → Whole g P s a t
-alike_read g e s a t (inl k) = inl (e s ∙ k)
-alike_read g e s a t (inr k) = inr (record { front = k.front; rest = k.rest; split = k.split; stops = e s ∙ k.stops; late = k.late })
-
-pub rule_alike : {A : Type 0} {f : Reader A} {L : List Lexeme → A → Type 0} {c : Lexeme → Bool} {P : ℕ → Type 0} (g : Reader A) → ((s : List Lexeme) → g s ≡ f s) → Rule f L c P → Rule g L c P
-rule_alike {f = f} {L = L} g e r = record {
-  words = r.words;
-  tree = r.tree;
-  some = r.some;
-  got = λ s t a h. let one : Got f L s a t = r.got s t a (sym (e s) ∙ h) in record { front = one.front; split = one.split; gives = one.gives; same = λ x v w d. e (one.front ++ (x ∷ w)) ∙ one.same x v w d };
-  stuck = λ s t h. let one : Stuck f L s t = r.stuck s t (sym (e s) ∙ h) in record { front = one.front; split = one.split; more = one.more; tree = one.tree; gives = one.gives; same = λ x v w d. e (one.front ++ (x ∷ w)) ∙ one.same x v w d };
-  whole = λ u a l t st. alike_read g e (u ++ t) a t (r.whole u a l t st);
-}
+pub test_read : {A : Type 0} (test : Lexeme → Option A) (x : Lexeme) (a : A) → test x ≡ Some a → (t : List Lexeme) → by_test test (x ∷ t) ≡ Ok (a, t)
+test_read test x a h t = rw (h, by_test) refl
 
 -- ---- marks
+
+mark_self : (a : Mark) → same_mark a a ≡ true
+unfolding same_mark
+mark_self (m.Keyword a) = true_same keywords.the_type a a refl
+mark_self (m.Sign a) = true_same signs.the_type a a refl
+
+same : (a b : Mark) → same_mark a b ≡ true → a ≡ b
+unfolding same_mark
+same (m.Keyword a) (m.Keyword b) e = ap m.Keyword (same_true keywords.the_type (search rules) a b e)
+same (m.Sign a) (m.Sign b) e = ap m.Sign (same_true signs.the_type (search rules) a b e)
+same _ _ e = absurd (cc)
+
+word_of_mark : (k : Mark) (v : Word) → is_mark k v ≡ true → v ≡ w.Fixed k
+word_of_mark k (w.Fixed j) e = ap w.Fixed (sym (same k j e))
+word_of_mark k _ e = cc
+
+-- a word that passes the test is the mark
+is_the_mark : (k : Mark) (x : Lexeme) → is_mark k x.word ≡ true → x ≡ mark k x.at
+is_the_mark k x e = let f : Word → Lexeme = λ v. record { word = v; at = x.at } in ap f (word_of_mark k x.word e)
 
 -- the value, where the test holds
 abbrev pub when : {A : Type 0} → Bool → A → Option A
@@ -362,47 +309,33 @@ marked_is m x p e = let k = when_some (is_mark m x.word) x.at p e in is_the_mark
 mark_marked : (m : Mark) (p : ℕ) → marked m (mark m p) ≡ Some p
 mark_marked m p = rw (mark_self m) refl
 
--- a mark that has to come, with what L says behind it
-pub data Only {A : Type 0} (m : Mark) (L : ℕ → List Lexeme → A → Type 0) : List Lexeme → A → Type 0 where
-  only : (p : ℕ) {u : List Lexeme} {a : A} → L p u a → Only m L (mark m p ∷ u) a
+to_mark : (k : Mark) (x : Lexeme) (p : ℕ) → marked k x ≡ Some p → IsMark k (x ∷ []) p
+to_mark k x p e = subst (λ z. IsMark k (z ∷ []) p) (sym (marked_is k x p e)) (IsMark.the p)
 
-only_alike_at : {A : Type 0} (b : Bool) (f : ℕ → Reader A) (x : Lexeme) (s : List Lexeme)
-    → (if b then f x.at s else Err (x ∷ s)) ≡ and_then (elim (when b x.at) [ Some p ↦ Ok (p, s) | None ↦ Err (x ∷ s) ]) f
-only_alike_at true f x s = refl
-only_alike_at false f x s = refl
+mark_begins : (k : Mark) (u : List Lexeme) (p : ℕ) → IsMark k u p → Begins (a_mark k) u
+mark_begins k u q (IsMark.the p) = rw (equal_self (kind (w.Fixed k))) refl
 
-only_alike : {A : Type 0} (m : Mark) (f : ℕ → Reader A) (s : List Lexeme) → ahead_at m f refuse s ≡ (by_test (marked m) >>= f) s
-only_alike m f [] = refl
-only_alike m f (x ∷ s) = only_alike_at (is_mark m x.word) f x s
+mark_read : (k : Mark) (u : List Lexeme) (p : ℕ) → IsMark k u p → (t : List Lexeme) → by_test (marked k) (u ++ t) ≡ Ok (p, t)
+mark_read k u q (IsMark.the p) t = test_read (marked k) (mark k p) p (mark_marked k p) t
 
-to_only : {A : Type 0} (m : Mark) (L : ℕ → List Lexeme → A → Type 0) (u : List Lexeme) (a : A) → Seq (Tested (marked m)) L u a → Only m L u a
-to_only m L w b (Seq.seq {v = v} (Tested.tested x p e) l) = subst (λ z. Only m L (z ∷ v) b) (sym (marked_is m x p e)) (Only.only p l)
+mark_shorter : (k : Mark) (P Q : ℕ → Type 0) → ((i : ℕ) → P (suc i) → Q i) → (u : List Lexeme) (a : ℕ) → IsMark k u a → (j : ℕ) → P (length u + j) → Q j
+mark_shorter k P Q shorter u a (IsMark.the p) j h = let same : length (mark k p ∷ []) + j ≡ suc j = omega arith in shorter j (subst P same h)
 
-of_only : {A : Type 0} (m : Mark) (L : ℕ → List Lexeme → A → Type 0) (u : List Lexeme) (a : A) → Only m L u a → Seq (Tested (marked m)) L u a
-of_only m L u a (Only.only p l) = Seq.seq (Tested.tested (mark m p) p (mark_marked m p)) l
+at_alike : (b : Bool) (p : ℕ) (x : Lexeme) (t : List Lexeme) → (let r : Outcome ℕ = if b then Ok (p, t) else Err (x ∷ t) in r) ≡ (elim (when b p) [ Some a ↦ Ok (a, t) | None ↦ Err (x ∷ t) ])
+at_alike true p x t = refl
+at_alike false p x t = refl
 
--- a word that passes a test is one word
-one_word : {A : Type 0} (test : Lexeme → Option A) (P Q : ℕ → Type 0) → ((i : ℕ) → P (suc i) → Q i) → (u : List Lexeme) (a : A) → Tested test u a → (j : ℕ) → P (length u + j) → Q j
-one_word test P Q shorter u b (Tested.tested x a e) j p = let same : length (x ∷ []) + j ≡ suc j = omega arith in shorter j (subst P same p)
+expect_alike : (k : Mark) (u : List Lexeme) → expect k u ≡ by_test (marked k) u
+expect_alike k [] = refl
+expect_alike k (x ∷ t) = at_alike (is_mark k x.word) x.at x t
 
-pub rule_only : {A : Type 0} {m : Mark} {f : ℕ → Reader A} {L : ℕ → List Lexeme → A → Type 0} {c : Lexeme → Bool} {Q : ℕ → Type 0} (P : ℕ → Type 0)
-    → ((p : ℕ) → Rule (f p) (L p) c Q) → ((i : ℕ) → P (suc i) → Q i) → Rule (ahead_at m f refuse) (Only m L) c P
-rule_only {m = m} {f = f} {L = L} {Q = Q} P here shorter = rule_alike (ahead_at m f refuse) (only_alike m f) (rule_iso (to_only m L) (of_only m L)
-    (rule_behind P (rule_test {c = never} {P = P} (marked m) (mark m 0) 0 (mark_marked m 0)) here (λ i p. p) (one_word (marked m) P Q shorter) (λ a v b t l st. never_stops (v ++ t))))
+pub rule_mark : {P : ℕ → Type 0} (k : Mark) → Rule (expect k) (IsMark k) (a_mark k) P
+rule_mark {P} k = rule_alike (expect k) (expect_alike k) (rule_test {P = P} (marked k) (only k) (mark k 0) 0 (mark_marked k 0) (to_mark k) (mark_begins k) (mark_read k))
 
--- ---- a mark that has to come
-
-expect_alike : (m : Mark) (s : List Lexeme) → expect m s ≡ ahead_at m (λ _. pure tt) refuse s
-expect_alike m s = refl
-
-to_mark : (m : Mark) (u : List Lexeme) (a : Unit {0}) → Only m (λ _. Done tt) u a → IsMark m u a
-to_mark m u a (Only.only p Done.done) = IsMark.the p
-
-of_mark : (m : Mark) (u : List Lexeme) (a : Unit {0}) → IsMark m u a → Only m (λ _. Done tt) u a
-of_mark m u a (IsMark.the p) = Only.only p Done.done
-
-pub rule_expect : {c : Lexeme → Bool} {P : ℕ → Type 0} (m : Mark) → Rule (expect m) (IsMark m) c P
-rule_expect {c} {P} m = rule_alike (expect m) (expect_alike m) (rule_iso (to_mark m) (of_mark m) (rule_only P (λ _. rule_pure {c = c} {P = λ _. Unit {0}} tt) (λ i p. tt)))
+-- a mark, and what stands behind it
+pub rule_key : {A : Type 0} {f : ℕ → Reader A} {L : ℕ → Language A} {s : Shape} {P Q : ℕ → Type 0} (k : Mark) → ((i : ℕ) → P (suc i) → Q i) → ((p : ℕ) → Rule (f p) (L p) s Q)
+    → Rule (expect k >>= f) (Seq (IsMark k) L) (a_mark k ▸ s) P
+rule_key {s = s} {P = P} {Q = Q} k shorter here = rule_behind P (rule_mark {P = P} k) here (apart_none s.starts) (λ i p. p) (mark_shorter k P Q shorter)
 
 -- ---- by the first word
 
@@ -415,164 +348,88 @@ pub same_first : {B : Type 0} (test : List Lexeme → B) → ((x : Lexeme) (s t 
 same_first test alike [] s t v w x e d = let q : s ≡ x ∷ v = e ∙ d in rw q (alike x w v)
 same_first test alike (y ∷ ys) s t v w x e d = rw e (alike y (ys ++ (x ∷ w)) (ys ++ t))
 
-pub data Either {A : Type 0} (L M : List Lexeme → A → Type 0) : List Lexeme → A → Type 0 where
-  left : {u : List Lexeme} {a : A} → L u a → Either L M u a
-  right : {u : List Lexeme} {a : A} → M u a → Either L M u a
-
-module _ {A : Type 0} (test : List Lexeme → Bool) (alike : (x : Lexeme) (s t : List Lexeme) → test (x ∷ s) ≡ test (x ∷ t)) (f g : Reader A) (L M : List Lexeme → A → Type 0) (c : Lexeme → Bool) (P : ℕ → Type 0) (here : Rule f L c P) (there : Rule g M c P) where
-  branch_got : (s t : List Lexeme) (a : A) (v : Bool) → test s ≡ v → branch test f g s ≡ Ok (a, t) → Got (branch test f g) (Either L M) s a t
-  branch_got s t a true h e =
-      let one : Got f L s a t = here.got s t a (rw h at e) in
+module _ {A : Type 0} (test : List Lexeme → Bool) (alike : (x : Lexeme) (s t : List Lexeme) → test (x ∷ s) ≡ test (x ∷ t)) (f g : Reader A) (L M : Language A) (s d : Shape) (P : ℕ → Type 0) (here : Rule f L s P) (there : Rule g M d P) where
+  branch_took : (z : List Lexeme) (r : Outcome A) (v : Bool) → test z ≡ v → branch test f g z ≡ r → Took (branch test f g) (Either L M) z r
+  branch_took z r true h e =
+      let one : Took f L z r = here.took z r (rw h at e) in
       record {
         front = one.front;
         split = one.split;
-        gives = Either.left one.gives;
-        same = λ x v w d. rw (same_first test alike one.front s t v w x one.split d ∙ h) (one.same x v w d);
+        gives = goes_change L (Either L M) (λ u a l. Either.in_left l) one.front r one.gives;
+        same = λ x v w d. rw (same_first test alike one.front z (left r) v w x one.split d ∙ h) (one.same x v w d);
       }
-  branch_got s t a false h e =
-      let one : Got g M s a t = there.got s t a (rw h at e) in
+  branch_took z r false h e =
+      let one : Took g M z r = there.took z r (rw h at e) in
       record {
         front = one.front;
         split = one.split;
-        gives = Either.right one.gives;
-        same = λ x v w d. rw (same_first test alike one.front s t v w x one.split d ∙ h) (one.same x v w d);
+        gives = goes_change M (Either L M) (λ u a l. Either.in_right l) one.front r one.gives;
+        same = λ x v w d. rw (same_first test alike one.front z (left r) v w x one.split d ∙ h) (one.same x v w d);
       }
 
-  branch_stuck : (s t : List Lexeme) (v : Bool) → test s ≡ v → branch test f g s ≡ Err t → Stuck (branch test f g) (Either L M) s t
-  branch_stuck s t true h e =
-      let one : Stuck f L s t = here.stuck s t (rw h at e) in
-      record {
-        front = one.front;
-        split = one.split;
-        more = one.more;
-        tree = one.tree;
-        gives = Either.left one.gives;
-        same = λ x v w d. rw (same_first test alike one.front s t v w x one.split d ∙ h) (one.same x v w d);
-      }
-  branch_stuck s t false h e =
-      let one : Stuck g M s t = there.stuck s t (rw h at e) in
-      record {
-        front = one.front;
-        split = one.split;
-        more = one.more;
-        tree = one.tree;
-        gives = Either.right one.gives;
-        same = λ x v w d. rw (same_first test alike one.front s t v w x one.split d ∙ h) (one.same x v w d);
-      }
+  branch_left : (z : List Lexeme) (a : A) (t : List Lexeme) → test z ≡ true → Whole f P z a t → Whole (branch test f g) P z a t
+  branch_left z a t h (inl e) = inl (rw h e)
+  branch_left z a t h (inr k) = inr (record { front = k.front; rest = k.rest; split = k.split; stops = rw h k.stops; late = k.late })
 
-  branch_left : (s : List Lexeme) (a : A) (t : List Lexeme) → test s ≡ true → Whole f P s a t → Whole (branch test f g) P s a t
-  branch_left s a t h (inl e) = inl (rw h e)
-  branch_left s a t h (inr k) = inr (record { front = k.front; rest = k.rest; split = k.split; stops = rw h k.stops; late = k.late })
+  branch_right : (z : List Lexeme) (a : A) (t : List Lexeme) → test z ≡ false → Whole g P z a t → Whole (branch test f g) P z a t
+  branch_right z a t h (inl e) = inl (rw h e)
+  branch_right z a t h (inr k) = inr (record { front = k.front; rest = k.rest; split = k.split; stops = rw h k.stops; late = k.late })
 
-  branch_right : (s : List Lexeme) (a : A) (t : List Lexeme) → test s ≡ false → Whole g P s a t → Whole (branch test f g) P s a t
-  branch_right s a t h (inl e) = inl (rw h e)
-  branch_right s a t h (inr k) = inr (record { front = k.front; rest = k.rest; split = k.split; stops = rw h k.stops; late = k.late })
+  branch_begins : s.empty ≡ false → (u : List Lexeme) (a : A) → Either L M u a → Begins (s ∥ d) u
+  branch_begins full u a (Either.in_left l) = begins_first s d u full (here.begins u a l)
+  branch_begins full u a (Either.in_right l) = begins_second s d u (there.begins u a l)
 
-  branch_whole : ((u : List Lexeme) (a : A) (t : List Lexeme) → L u a → test (u ++ t) ≡ true)
-      → ((u : List Lexeme) (a : A) (t : List Lexeme) → M u a → Stops c t → test (u ++ t) ≡ false)
-      → (w : List Lexeme) (a : A) → Either L M w a → (t : List Lexeme) → Stops c t → Whole (branch test f g) P (w ++ t) a t
-  branch_whole named unnamed w a (Either.left l) t st = branch_left (w ++ t) a t (named w a t l) (here.whole w a l t st)
-  branch_whole named unnamed w a (Either.right l) t st = branch_right (w ++ t) a t (unnamed w a t l st) (there.whole w a l t st)
+  branch_whole : ((u : List Lexeme) (a : A) (t : List Lexeme) → L u a → test (u ++ t) ≡ true) → ((t : List Lexeme) → Stops s.starts t → test t ≡ false) → apart s.starts d.starts ≡ true
+      → (u : List Lexeme) (a : A) → Either L M u a → (t : List Lexeme) → Stops (s ∥ d).stops t → Whole (branch test f g) P (u ++ t) a t
+  branch_whole seen unseen far u a (Either.in_left l) t st =
+      let k = stops_neither s.stops d.stops t (stops_both d.empty (s.stops ++ d.stops) s.starts t st).0 in
+      branch_left (u ++ t) a t (seen u a t l) (here.whole u a l t k.0)
+  branch_whole seen unseen far u a (Either.in_right l) t st =
+      let both = stops_both d.empty (s.stops ++ d.stops) s.starts t st in
+      let k = stops_neither s.stops d.stops t both.0 in
+      branch_right (u ++ t) a t (unseen (u ++ t) (stops_before s.starts d u t far (there.begins u a l) both.1)) (there.whole u a l t k.1)
 
-pub rule_branch : {A : Type 0} {f g : Reader A} {L M : List Lexeme → A → Type 0} {c : Lexeme → Bool} {P : ℕ → Type 0} (test : List Lexeme → Bool) → ((x : Lexeme) (s t : List Lexeme) → test (x ∷ s) ≡ test (x ∷ t)) → Rule f L c P → Rule g M c P
-    → ((u : List Lexeme) (a : A) (t : List Lexeme) → L u a → test (u ++ t) ≡ true)
-    → ((u : List Lexeme) (a : A) (t : List Lexeme) → M u a → Stops c t → test (u ++ t) ≡ false) → Rule (branch test f g) (Either L M) c P
-rule_branch {f = f} {g = g} {L = L} {M = M} {c = c} {P = P} test alike here there seen unseen = record {
+pub rule_branch : {A : Type 0} {f g : Reader A} {L M : Language A} {s d : Shape} {P : ℕ → Type 0} (test : List Lexeme → Bool) → ((x : Lexeme) (u t : List Lexeme) → test (x ∷ u) ≡ test (x ∷ t))
+    → ((u : List Lexeme) (a : A) (t : List Lexeme) → L u a → test (u ++ t) ≡ true) → ((t : List Lexeme) → Stops s.starts t → test t ≡ false) → s.empty ≡ false
+    → Rule f L s P → Rule g M d P → apart s.starts d.starts ≡ true → Rule (branch test f g) (Either L M) (s ∥ d) P
+rule_branch {f = f} {g = g} {L = L} {M = M} {s = s} {d = d} {P = P} test alike seen unseen full here there far = record {
   words = here.words;
   tree = here.tree;
-  some = Either.left here.some;
-  got = λ s t a e. branch_got test alike f g L M c P here there s t a (test s) refl e;
-  stuck = λ s t e. branch_stuck test alike f g L M c P here there s t (test s) refl e;
-  whole = branch_whole test alike f g L M c P here there seen unseen;
+  some = Either.in_left here.some;
+  begins = branch_begins test alike f g L M s d P here there full;
+  took = λ u r e. branch_took test alike f g L M s d P here there u r (test u) refl e;
+  whole = branch_whole test alike f g L M s d P here there seen unseen far;
 }
-
-pub rule_at_name : {A : Type 0} {f g : Reader A} {L M : List Lexeme → A → Type 0} {c : Lexeme → Bool} {P : ℕ → Type 0} → Rule f L c P → Rule g M c P
-    → ((u : List Lexeme) (a : A) (t : List Lexeme) → L u a → sees_name (u ++ t) ≡ true)
-    → ((u : List Lexeme) (a : A) (t : List Lexeme) → M u a → Stops c t → sees_name (u ++ t) ≡ false) → Rule (at_name f g) (Either L M) c P
-rule_at_name here there named unnamed = rule_branch sees_name (λ x s t. refl) here there named unnamed
 
 -- ---- a mark, or something else
 
-ahead_alike_at : {A : Type 0} (b : Bool) (r s : Outcome A) (t : List Lexeme) → (if b then r else s) ≡ (if b then (if b then r else Err t) else s)
-ahead_alike_at true r s t = refl
-ahead_alike_at false r s t = refl
+mark_seen : {A : Type 0} (k : Mark) (L : ℕ → Language A) (u : List Lexeme) (a : A) (t : List Lexeme) → Seq (IsMark k) L u a → sees k (u ++ t) ≡ true
+mark_seen k L u a t (Seq.seq (IsMark.the p) l) = mark_self k
 
-ahead_alike : {A : Type 0} (m : Mark) (f : ℕ → Reader A) (g : Reader A) (s : List Lexeme) → ahead_at m f g s ≡ branch (sees m) (ahead_at m f refuse) g s
-ahead_alike m f g s = ahead_alike_at (sees m s) (f (place s) (drop 1 s)) (g s) s
+mark_unseen_at : (k : Mark) (x : Lexeme) (b : Bool) → is_mark k x.word ≡ b → Stops (only k) (x ∷ []) → b ≡ false
+mark_unseen_at k x false e st = refl
+mark_unseen_at k x true e st =
+    let same : kind (w.Fixed k) ≡ kind x.word = sym (ap (λ (z : Lexeme). kind z.word) (is_the_mark k x e)) in
+    let self = equal_self (kind (w.Fixed k)) in
+    let z = rw (sym same, self) at st in
+    absurd (cc)
 
-to_ahead : {A : Type 0} (m : Mark) (L : ℕ → List Lexeme → A → Type 0) (M : List Lexeme → A → Type 0) (u : List Lexeme) (a : A) → Either (Only m L) M u a → Ahead m L M u a
-to_ahead m L M u a (Either.left (Only.only p l)) = Ahead.this p l
-to_ahead m L M u a (Either.right l) = Ahead.other l
+mark_unseen : (k : Mark) (t : List Lexeme) → Stops (only k) t → sees k t ≡ false
+mark_unseen k [] st = refl
+mark_unseen k (x ∷ t) st = mark_unseen_at k x (is_mark k x.word) refl st
 
-of_ahead : {A : Type 0} (m : Mark) (L : ℕ → List Lexeme → A → Type 0) (M : List Lexeme → A → Type 0) (u : List Lexeme) (a : A) → Ahead m L M u a → Either (Only m L) M u a
-of_ahead m L M u a (Ahead.this p l) = Either.left (Only.only p l)
-of_ahead m L M u a (Ahead.other l) = Either.right l
+pub rule_case : {A : Type 0} {f : ℕ → Reader A} {g : Reader A} {L : ℕ → Language A} {M : Language A} {s d : Shape} {P Q : ℕ → Type 0} (k : Mark) → ((i : ℕ) → P (suc i) → Q i)
+    → ((p : ℕ) → Rule (f p) (L p) s Q) → Rule g M d P → apart (only k) d.starts ≡ true → Rule (branch (sees k) (expect k >>= f) g) (Either (Seq (IsMark k) L) M) ((a_mark k ▸ s) ∥ d) P
+rule_case {L = L} k shorter here there far = rule_branch (sees k) (λ x u t. refl) (mark_seen k L) (mark_unseen k) refl (rule_key k shorter here) there far
 
-only_seen : {A : Type 0} (m : Mark) (L : ℕ → List Lexeme → A → Type 0) (u : List Lexeme) (a : A) (t : List Lexeme) → Only m L u a → sees m (u ++ t) ≡ true
-only_seen m L u a t (Only.only p l) = mark_self m
+-- ---- nothing at all
 
-pub rule_ahead : {A : Type 0} {m : Mark} {f : ℕ → Reader A} {g : Reader A} {L : ℕ → List Lexeme → A → Type 0} {M : List Lexeme → A → Type 0} {c : Lexeme → Bool} {P Q : ℕ → Type 0}
-    → ((p : ℕ) → Rule (f p) (L p) c Q) → Rule g M c P → ((i : ℕ) → P (suc i) → Q i)
-    → ((u : List Lexeme) (a : A) (t : List Lexeme) → M u a → Stops c t → sees m (u ++ t) ≡ false) → Rule (ahead_at m f g) (Ahead m L M) c P
-rule_ahead {m = m} {f = f} {g = g} {L = L} {M = M} {P = P} here there shorter apart =
-    rule_alike (ahead_at m f g) (ahead_alike m f g) (rule_iso (to_ahead m L M) (of_ahead m L M) (rule_branch (sees m) (λ x s t. refl) (rule_only P here shorter) there (only_seen m L) apart))
-
--- ---- a comparison, or something else
-
-pub data Compared {A : Type 0} (L : Op → List Lexeme → A → Type 0) (M : List Lexeme → A → Type 0) : List Lexeme → A → Type 0 where
-  compared : (o : Op) (p : ℕ) {u : List Lexeme} {a : A} → L o u a → Compared L M (compare o p ∷ u) a
-  uncompared : {u : List Lexeme} {a : A} → M u a → Compared L M u a
-
-word_of_compare : (o : Op) (v : Word) → comparison v ≡ Some o → v ≡ w.Compare o
-word_of_compare o (w.Compare k) e = let q : k ≡ o = cc in ap w.Compare q
-word_of_compare o (w.Fixed m) e = cc
-word_of_compare o (w.Name n) e = cc
-word_of_compare o (w.Number n) e = cc
-word_of_compare o (w.Text t) e = cc
-
-pub is_the_compare : (o : Op) (x : Lexeme) → comparison x.word ≡ Some o → x ≡ compare o x.at
-is_the_compare o x e = let f : Word → Lexeme = λ v. record { word = v; at = x.at } in ap f (word_of_compare o x.word e)
-
-abbrev compared_word : Lexeme → Option Op
-compared_word x = comparison x.word
-
-abbrev compares : List Lexeme → Bool
-compares s = elim (sees_compare s) [ Some o ↦ true | None ↦ false ]
-
-compare_only_at : {A : Type 0} (o : Option Op) (f : Op → Reader A) (x : Lexeme) (s : List Lexeme)
-    → (let r : Outcome A = elim o [ Some p ↦ f p s | None ↦ Err (x ∷ s) ] in r) ≡ and_then (elim o [ Some p ↦ Ok (p, s) | None ↦ Err (x ∷ s) ]) f
-compare_only_at (Some p) f x s = refl
-compare_only_at None f x s = refl
-
-compare_only : {A : Type 0} (f : Op → Reader A) (s : List Lexeme) → at_compare f refuse s ≡ (by_test compared_word >>= f) s
-compare_only f [] = refl
-compare_only f (x ∷ s) = compare_only_at (comparison x.word) f x s
-
-compare_alike_at : {A : Type 0} (o : Option Op) (f : Op → Reader A) (g : Reader A) (r s : List Lexeme)
-    → (let z : Outcome A = elim o [ Some p ↦ f p r | None ↦ g s ] in z) ≡ (if (elim o [ Some p ↦ true | None ↦ false ]) then (elim o [ Some p ↦ f p r | None ↦ Err s ]) else g s)
-compare_alike_at (Some p) f g r s = refl
-compare_alike_at None f g r s = refl
-
-compare_alike : {A : Type 0} (f : Op → Reader A) (g : Reader A) (s : List Lexeme) → at_compare f g s ≡ branch compares (at_compare f refuse) g s
-compare_alike f g s = compare_alike_at (sees_compare s) f g (drop 1 s) s
-
-to_compared : {A : Type 0} (L : Op → List Lexeme → A → Type 0) (M : List Lexeme → A → Type 0) (u : List Lexeme) (a : A) → Either (Seq (Tested compared_word) L) M u a → Compared L M u a
-to_compared L M w b (Either.left (Seq.seq {v = v} (Tested.tested x o e) l)) = subst (λ z. Compared L M (z ∷ v) b) (sym (is_the_compare o x e)) (Compared.compared o x.at l)
-to_compared L M w b (Either.right l) = Compared.uncompared l
-
-of_compared : {A : Type 0} (L : Op → List Lexeme → A → Type 0) (M : List Lexeme → A → Type 0) (u : List Lexeme) (a : A) → Compared L M u a → Either (Seq (Tested compared_word) L) M u a
-of_compared L M u a (Compared.compared o p l) = Either.left (Seq.seq (Tested.tested (compare o p) o refl) l)
-of_compared L M u a (Compared.uncompared l) = Either.right l
-
-compare_seen : {A : Type 0} (L : Op → List Lexeme → A → Type 0) (u : List Lexeme) (a : A) (t : List Lexeme) → Seq (Tested compared_word) L u a → compares (u ++ t) ≡ true
-compare_seen L w b t (Seq.seq (Tested.tested x o e) l) = rw (e, compares) refl
-
-pub rule_at_compare : {A : Type 0} {f : Op → Reader A} {g : Reader A} {L : Op → List Lexeme → A → Type 0} {M : List Lexeme → A → Type 0} {c : Lexeme → Bool} {P Q : ℕ → Type 0}
-    → ((o : Op) → Rule (f o) (L o) c Q) → Rule g M c P → ((i : ℕ) → P (suc i) → Q i)
-    → ((u : List Lexeme) (a : A) (t : List Lexeme) → M u a → Stops c t → sees_compare (u ++ t) ≡ None) → Rule (at_compare f g) (Compared L M) c P
-rule_at_compare {f = f} {g = g} {L = L} {M = M} {P = P} {Q = Q} here there shorter apart =
-    rule_alike (at_compare f g) (compare_alike f g) (rule_iso (to_compared L M) (of_compared L M)
-    (rule_branch compares (λ x s t. refl)
-    (rule_alike (at_compare f refuse) (compare_only f)
-    (rule_behind P (rule_test {c = never} {P = P} compared_word (compare op.Eq 0) op.Eq refl) here (λ i p. p) (one_word compared_word P Q shorter) (λ a v b t l st. never_stops (v ++ t))))
-    there (compare_seen L) (λ u a t l st. rw (apart u a t l st, compares) refl)))
+pub rule_refuse : {A : Type 0} {L : Language A} {s : Shape} {P : ℕ → Type 0} (u : List Lexeme) (a : A) → L u a → ((u : List Lexeme) (a : A) → L u a → Begins s u) → ((i : ℕ) → P i → ⊥) → Rule refuse L s P
+rule_refuse {L = L} u a l begins none = record {
+  words = u;
+  tree = a;
+  some = l;
+  begins = begins;
+  took = λ s r e. subst (λ z. Took refuse L s z) e (record { front = []; split = refl; gives = (u, a, l); same = λ x v w d. refl });
+  whole = λ w b k t st. inr (record { front = []; rest = w ++ t; split = refl; stops = refl; late = none 0 });
+}

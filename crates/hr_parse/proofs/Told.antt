@@ -9,7 +9,8 @@ use Rattle.hr_parse.specs.declared.parsing.ParseError.{ParseError}
 use Rattle.hr_parse.specs.declared.parsing.ParseError.TheVariants as e
 use Rattle.hr_parse.specs.declared.word.Lexeme.{Lexeme}
 use Rattle.hr_parse.specs.Readers.{Outcome, Reader, Reads, alone}
-use Rattle.hr_parse.specs.Parse.{Begins, Refused, error, depth_for, moved, told, settled}
+use Rattle.hr_parse.specs.Parse.{Refused, error, depth_for, moved, told, settled}
+use Rattle.hr_parse.proofs.Shapes.{Shape}
 use Rattle.hr_parse.proofs.Rules.{Rule}
 use Rattle.hr_parse.proofs.Operands.{Fits}
 use Rattle.hr_parse.proofs.Whole.{Cause, begins_all, read_is, is_read, refused}
@@ -38,77 +39,57 @@ exactly f given s r rest found first end last same alike ends h = elim (settled_
   | inr k ↦ inr k
 ]
 
-pub by_exact : {A : Type 0} (P : Result A ParseError → Type 0) (r q : Result A ParseError) → P q → P (Err e.Memory) → (r ≡ q) ⊎ (r ≡ Err e.Memory) → P r
-by_exact P r q read memory (inl k) = subst P (sym k) read
-by_exact P r q read memory (inr k) = subst P (sym k) memory
+-- what an answer says that is this result, or want of memory
+pub exact_ok : {A : Type 0} (Q : A → Type 0) (r q : Result A ParseError) → (r ≡ q) ⊎ (r ≡ Err e.Memory) → ((a : A) → q ≡ Ok a → Q a) → IfOk r Q
+exact_ok Q (Ok a) q (inl k) h = h a (sym k)
+exact_ok Q (Ok a) q (inr k) h = absurd (cc)
+exact_ok Q (Err x) q k h = tt
 
-pub if_ok : {A : Type 0} (Q : A → Type 0) (r : Result A ParseError) → ((a : A) → r ≡ Ok a → Q a) → IfOk r Q
-if_ok Q (Ok a) h = h a refl
-if_ok Q (Err x) h = tt
+pub exact_only : {A : Type 0} (r q : Result A ParseError) (a : A) → (r ≡ q) ⊎ (r ≡ Err e.Memory) → q ≡ Ok a → (r ≡ Ok a) ⊎ (r ≡ Err e.Memory)
+exact_only r q a (inl k) h = inl (k ∙ h)
+exact_only r q a (inr k) h = inr k
 
-pub if_err : {A : Type 0} (Q : ParseError → Type 0) (r : Result A ParseError) → ((x : ParseError) → r ≡ Err x → Q x) → IfErr r Q
-if_err Q (Ok a) h = tt
-if_err Q (Err x) h = h x refl
+pub exact_err : {A : Type 0} (Q : ParseError → Type 0) (r q : Result A ParseError) → (r ≡ q) ⊎ (r ≡ Err e.Memory) → Q e.Memory → ((x : ParseError) → q ≡ Err x → Q x) → IfErr r Q
+exact_err Q (Ok a) q k memory h = tt
+exact_err Q (Err x) q (inl k) memory h = h x (sym k)
+exact_err Q (Err x) q (inr k) memory h = let same : e.Memory ≡ x = cc in subst Q same memory
 
 -- ---- what is settled is what the grammar says
 
-settled_ok : {A : Type 0} (o : Outcome A) (first : Option LexError) (end : ℕ) (a : A) → settled o first end ≡ Ok a → (first ≡ None) × ((t : List Lexeme) × (o ≡ Ok (a, t)))
-settled_ok (Ok p) None end a h = let q : p.0 ≡ a = cc in (refl, (p.1, ap (λ z. Ok (z, p.1)) q))
-settled_ok (Ok p) (Some f) end a h = absurd (cc)
-settled_ok (Err (x ∷ r)) first end a h = absurd (cc)
-settled_ok (Err []) None end a h = absurd (cc)
-settled_ok (Err []) (Some f) end a h = absurd (cc)
-
-settled_no_memory : {A : Type 0} (o : Outcome A) (first : Option LexError) (end : ℕ) → settled o first end ≡ Err e.Memory → ⊥
-settled_no_memory (Ok p) None end h = absurd (cc)
-settled_no_memory (Ok p) (Some f) end h = absurd (cc)
-settled_no_memory (Err (x ∷ r)) first end h = absurd (cc)
-settled_no_memory (Err []) None end h = absurd (cc)
-settled_no_memory (Err []) (Some f) end h = absurd (cc)
-
-cause_word : {A : Type 0} (L : List Lexeme → A → Type 0) (s : List Lexeme) (x : Lexeme) (r : List Lexeme) (first : Option LexError) (end : ℕ) → Cause L s (x ∷ r) → Refused L s first end (e.Unexpected x.at)
-cause_word L s x r first end (Cause.at_word y rest u) = inl u
-
-cause_end : {A : Type 0} (L : List Lexeme → A → Type 0) (s : List Lexeme) (end : ℕ) → Cause L s [] → Refused L s None end (e.Unexpected end)
-cause_end L s end (Cause.at_end u) = inr (refl, refl, u)
-
-cause_begins : {A : Type 0} (L : List Lexeme → A → Type 0) (s : List Lexeme) → Cause L s [] → Begins L s
-cause_begins L s (Cause.at_end u) = u.0
-
-module _ {A : Type 0} (f : ℕ → Reader A) (L : List Lexeme → A → Type 0) (c : Lexeme → Bool) (rule : (n : ℕ) → Rule (f n) L c (Fits 6 n)) (s : List Lexeme) (first : Option LexError) (end : ℕ) where
+module _ {A : Type 0} (f : ℕ → Reader A) (L : List Lexeme → A → Type 0) (c : Shape) (rule : (n : ℕ) → Rule (f n) L c (Fits 6 n)) (s : List Lexeme) (first : Option LexError) (end : ℕ) where
   abbrev read : Outcome A
   read = alone (f (depth_for s)) s
 
+  in_it : (p : A × List Lexeme) → read ≡ Ok p → L s p.0
+  in_it p q = read_is 6 (depth_for s) (f (depth_for s)) L c (rule (depth_for s)) s p.1 p.0 q
+
+  why : (t : List Lexeme) → read ≡ Err t → Cause L s t
+  why t q = refused 6 (depth_for s) (f (depth_for s)) L c (rule (depth_for s)) s t (omega arith) q
+
+  -- what is told rightly with this error behind the words
+  abbrev Right : Option LexError → Result A ParseError → Type 0
+  Right last (Ok a) = (last ≡ None) × L s a
+  Right last (Err x) = Refused L s last end x × (x ≡ e.Memory → ⊥)
+
+  told_rightly : (o : Outcome A) (last : Option LexError) → read ≡ o → Right last (settled o last end)
+  told_rightly (Ok p) None q = (refl, in_it p q)
+  told_rightly (Ok p) (Some g) q = ((refl, begins_all L s p.0 (in_it p q)), λ h. absurd (cc))
+  told_rightly (Err (y ∷ r)) last q = (inl (why (y ∷ r) q), λ h. absurd (cc))
+  told_rightly (Err []) None q = (inr (refl, refl, why [] q), λ h. absurd (cc))
+  told_rightly (Err []) (Some g) q = ((refl, (why [] q).0), λ h. absurd (cc))
+
   pub settled_tree : (a : A) → settled read first end ≡ Ok a → (first ≡ None) × L s a
-  settled_tree a h =
-      let k = settled_ok read first end a h in
-      (k.0, read_is 6 (depth_for s) (f (depth_for s)) L c (rule (depth_for s)) s k.1.0 a k.1.1)
+  settled_tree a h = subst (Right first) h (told_rightly read first refl)
 
   pub tree_settled : (a : A) → (first ≡ None) × L s a → settled read first end ≡ Ok a
   tree_settled a h =
       ap (λ z. settled z first end) (is_read 6 (depth_for s) (f (depth_for s)) L c (rule (depth_for s)) s a h.1 (omega arith)) ∙ ap (λ z. settled (let o : Outcome A = Ok (a, []) in o) z end) h.0
 
-  refused_by : (o : Outcome A) (last : Option LexError) (x : ParseError) → read ≡ o → settled o last end ≡ Err x → Refused L s last end x
-  refused_by (Ok p) None x e h = absurd (cc)
-  refused_by (Ok p) (Some g) x q h =
-      let k : e.Lex g ≡ x = cc in
-      let l : L s p.0 = read_is 6 (depth_for s) (f (depth_for s)) L c (rule (depth_for s)) s p.1 p.0 q in
-      subst (λ z. Refused L s (Some g) end z) k (refl, begins_all L s p.0 l)
-  refused_by (Err (y ∷ r)) last x q h =
-      let k : e.Unexpected y.at ≡ x = cc in
-      subst (λ z. Refused L s last end z) k (cause_word L s y r last end (refused 6 (depth_for s) (f (depth_for s)) L c (rule (depth_for s)) s (y ∷ r) (omega arith) q))
-  refused_by (Err []) None x q h =
-      let k : e.Unexpected end ≡ x = cc in
-      subst (λ z. Refused L s None end z) k (cause_end L s end (refused 6 (depth_for s) (f (depth_for s)) L c (rule (depth_for s)) s [] (omega arith) q))
-  refused_by (Err []) (Some g) x q h =
-      let k : e.Lex g ≡ x = cc in
-      subst (λ z. Refused L s (Some g) end z) k (refl, cause_begins L s (refused 6 (depth_for s) (f (depth_for s)) L c (rule (depth_for s)) s [] (omega arith) q))
-
   pub settled_refused : (x : ParseError) → settled read first end ≡ Err x → Refused L s first end x
-  settled_refused x h = refused_by read first x refl h
+  settled_refused x h = (subst (Right first) h (told_rightly read first refl)).0
 
   pub settled_memory : settled read first end ≡ Err e.Memory → ⊥
-  settled_memory h = settled_no_memory read first end h
+  settled_memory h = (subst (Right first) h (told_rightly read first refl)).1 refl
 
 -- ---- the length of a text, and words that stand where they were
 

@@ -1,12 +1,21 @@
 -- A reader that reads a language, and then the end: what is read is in the language, what is in it is read, and the
 -- first word that is refused is unexpected.
-use Rattle.std.proofs.Common.{◌≡◌, inl, inr, ℕ, ◌+◌, Bool, List, [], ◌∷◌, ◌++◌, length, Ok, Err, refl, sym, ◌∙◌, ap, subst, arith}
+use Rattle.std.proofs.Common.{◌≡◌, ◌⊎◌, inl, inr, ℕ, ◌+◌, List, [], ◌∷◌, ◌++◌, length, Ok, Err, refl, sym, ◌∙◌, ap, subst, arith}
 use Rattle.std.proofs.lemmas.List.{append-nil, length-append}
 use Rattle.hr_parse.specs.declared.word.Lexeme.{Lexeme}
-use Rattle.hr_parse.specs.Readers.{Reader, and_then, pure, expect_end, alone}
+use Rattle.hr_parse.specs.Readers.{Outcome, Reader, and_then, pure, expect_end, alone}
 use Rattle.hr_parse.specs.Parse.{Begins, UnexpectedAt, Unended}
-use Rattle.hr_parse.proofs.Rules.{Got, Stuck, Whole, Rule, bind_ok, bind_err, ok_parts}
+use Rattle.hr_parse.proofs.Shapes.{Shape}
+use Rattle.hr_parse.proofs.Rules.{Took, Whole, Rule, ok_parts}
 use Rattle.hr_parse.proofs.Operands.{Fits}
+
+bind_ok : {A B : Type 0} (r : Outcome A) (g : A → Reader B) (y : B × List Lexeme) → and_then r g ≡ Ok y → (p : A × List Lexeme) × (r ≡ Ok p) × (g p.0 p.1 ≡ Ok y)
+bind_ok (Ok p) g y e = (p, refl, e)
+bind_ok (Err w) g y e = absurd (cc)
+
+bind_err : {A B : Type 0} (r : Outcome A) (g : A → Reader B) (t : List Lexeme) → and_then r g ≡ Err t → (r ≡ Err t) ⊎ ((p : A × List Lexeme) × (r ≡ Ok p) × (g p.0 p.1 ≡ Err t))
+bind_err (Ok p) g t e = inr (p, refl, e)
+bind_err (Err w) g t e = let q : w ≡ t = cc in inl (ap Err q)
 
 -- the end behind what was read
 abbrev ended : {A : Type 0} → A → Reader A
@@ -16,10 +25,10 @@ ended_ok : {A : Type 0} (a b : A) (m t : List Lexeme) → ended a m ≡ Ok (b, t
 ended_ok a b [] t e = (refl, (ok_parts a b [] t e).0)
 ended_ok a b (x ∷ m) t e = absurd (cc)
 
--- why words are refused
-pub data Cause {A : Type 0} (L : List Lexeme → A → Type 0) (s : List Lexeme) : List Lexeme → Type 0 where
-  at_word : (x : Lexeme) (rest : List Lexeme) → UnexpectedAt L x.at s → Cause L s (x ∷ rest)
-  at_end : Unended L s → Cause L s []
+-- why words are refused, from these on
+abbrev pub Cause : {A : Type 0} → (List Lexeme → A → Type 0) → List Lexeme → List Lexeme → Type 0
+Cause L s [] = Unended L s
+Cause L s (x ∷ rest) = UnexpectedAt L x.at s
 
 pub begins_all : {A : Type 0} (L : List Lexeme → A → Type 0) (s : List Lexeme) (a : A) → L s a → Begins L s
 begins_all L s a l = ([], a, subst (λ z. L z a) (sym (append-nil s)) l)
@@ -27,11 +36,11 @@ begins_all L s a l = ([], a, subst (λ z. L z a) (sym (append-nil s)) l)
 fits_front : (k n : ℕ) (front s rest : List Lexeme) → s ≡ front ++ rest → Fits k n (length s) → Fits k n (length front)
 fits_front k n front s rest e fits = let z : length s ≡ length front + length rest = ap length e ∙ length-append front rest in omega (arith, z, fits)
 
-module _ {A : Type 0} (k n : ℕ) (f : Reader A) (L : List Lexeme → A → Type 0) (c : Lexeme → Bool) (rule : Rule f L c (Fits k n)) where
+module _ {A : Type 0} (k n : ℕ) (f : Reader A) (L : List Lexeme → A → Type 0) (c : Shape) (rule : Rule f L c (Fits k n)) where
   pub read_is : (s t : List Lexeme) (a : A) → alone f s ≡ Ok (a, t) → L s a
   read_is s t a e =
       let z = bind_ok (f s) ended (a, t) e in
-      let one : Got f L s z.0.0 z.0.1 = rule.got s z.0.1 z.0.0 z.1 in
+      let one : Took f L s (Ok z.0) = rule.took s (Ok z.0) z.1 in
       let last = ended_ok z.0.0 a z.0.1 t z.2 in
       let split : s ≡ one.front = one.split ∙ (ap (λ w. one.front ++ w) last.0 ∙ append-nil one.front) in
       subst (λ w. L w a) (sym split) (subst (λ w. L one.front w) last.1 one.gives)
@@ -65,37 +74,21 @@ module _ {A : Type 0} (k n : ℕ) (f : Reader A) (L : List Lexeme → A → Type
       let same : length front ≡ length z.front = omega (arith, one, two, three) in
       z.late (subst (Fits k n) same fits)
 
-  refused_within : (s t : List Lexeme) → Fits k n (length s) → Stuck f L s t → f s ≡ Err t → Cause L s t
+  refused_within : (s t : List Lexeme) → Fits k n (length s) → Took f L s (Err t) → f s ≡ Err t → Cause L s t
   refused_within s [] fits z e =
       let all : s ≡ z.front = z.split ∙ append-nil z.front in
-      Cause.at_end (subst (Begins L) (sym all) (z.more, z.tree, z.gives), λ a l. let q = read_part s a l fits in absurd (cc))
+      (subst (Begins L) (sym all) z.gives, λ a l. let q = read_part s a l fits in absurd (cc))
   refused_within s (x ∷ v) fits z e =
-      Cause.at_word x v (
-        z.front,
-        x,
-        v,
-        z.split,
-        refl,
-        (z.more, z.tree, z.gives),
-        λ w a l. none_here z.front x w a (z.same x v w refl) (fits_front k n z.front s (x ∷ v) z.split fits) (whole (z.front ++ x ∷ w) a l),
-      )
+      (z.front, x, v, z.split, refl, z.gives, λ w a l. none_here z.front x w a (z.same x v w refl) (fits_front k n z.front s (x ∷ v) z.split fits) (whole (z.front ++ x ∷ w) a l))
 
-  refused_behind : (s : List Lexeme) (a : A) (m t : List Lexeme) → Got f L s a m → ended a m ≡ Err t → Cause L s t
+  refused_behind : (s : List Lexeme) (a : A) (m t : List Lexeme) → Took f L s (Ok (a, m)) → ended a m ≡ Err t → Cause L s t
   refused_behind s a [] t one e = absurd (cc)
   refused_behind s a (x ∷ r) t one e =
       let q : (x ∷ r) ≡ t = cc in
-      subst (λ w. Cause L s w) q (Cause.at_word x r (
-        one.front,
-        x,
-        r,
-        one.split,
-        refl,
-        begins_all L one.front a one.gives,
-        λ w b l. none_behind one.front x w b a (one.same x r w refl) (whole (one.front ++ x ∷ w) b l),
-      ))
+      subst (λ w. Cause L s w) q (one.front, x, r, one.split, refl, begins_all L one.front a one.gives, λ w b l. none_behind one.front x w b a (one.same x r w refl) (whole (one.front ++ x ∷ w) b l))
 
   pub refused : (s t : List Lexeme) → Fits k n (length s) → alone f s ≡ Err t → Cause L s t
   refused s t fits e = elim (bind_err (f s) ended t e) [
-    | inl h ↦ refused_within s t fits (rule.stuck s t h) h
-    | inr z ↦ refused_behind s z.0.0 z.0.1 t (rule.got s z.0.1 z.0.0 z.1) z.2
+    | inl h ↦ refused_within s t fits (rule.took s (Err t) h) h
+    | inr z ↦ refused_behind s z.0.0 z.0.1 t (rule.took s (Ok z.0) z.1) z.2
   ]

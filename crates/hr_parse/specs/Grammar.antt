@@ -1,5 +1,6 @@
--- The grammar: which words are a statement, and with which tree. One case for each form of a rule.
-use Rattle.std.specs.Prelude.{ℕ, ◌<◌, ◌≤◌, ◌^◌, pos, true, false, List, [], ◌∷◌, ◌++◌, Option, Some, None}
+-- The grammar: which words each rule gives, and with which tree. A rule is put together part by part, as EBNF has it; the
+-- names of the parts' trees, and the tree that they are put into, stand with them.
+use Rattle.std.specs.Prelude.{ℕ, zero, suc, ◌<◌, ◌≤◌, ◌^◌, pos, Bool, true, false, if◌then◌else◌, List, [], ◌∷◌, ◌++◌, Option, Some, None}
 use Rattle.hr_rel.specs.declared.expr.Op.{Op}
 use Rattle.hr_rel.specs.declared.expr.Op.TheVariants as op
 use Rattle.hr_parse.specs.declared.ast.Ast.{Ast}
@@ -12,6 +13,7 @@ use Rattle.hr_parse.specs.declared.ast.JoinAst.{JoinAst}
 use Rattle.hr_parse.specs.declared.ast.TupleAst.{TupleAst}
 use Rattle.hr_parse.specs.declared.ast.SetAst.{SetAst}
 use Rattle.hr_parse.specs.declared.ast.ExprAst.{ExprAst}
+use Rattle.hr_parse.specs.declared.ast.AggWord.{AggWord}
 use Rattle.hr_parse.specs.declared.ast.ItemAst.{ItemAst}
 use Rattle.hr_parse.specs.declared.ast.Items.{Items}
 use Rattle.hr_parse.specs.declared.ast.CondAst.{CondAst}
@@ -28,68 +30,190 @@ use Rattle.hr_parse.specs.declared.ast.OperandAst.TheVariants as operand_of
 use Rattle.hr_parse.specs.declared.ast.LitAst.TheVariants as lit
 use Rattle.hr_parse.specs.declared.word.Mark.{Mark}
 use Rattle.hr_parse.specs.declared.word.Mark.TheVariants as m
+use Rattle.hr_lex.specs.declared.token.Keyword.{Keyword}
 use Rattle.hr_lex.specs.declared.token.Keyword.TheVariants as kw
+use Rattle.hr_parse.specs.declared.word.Sign.{Sign}
 use Rattle.hr_parse.specs.declared.word.Sign.TheVariants as sg
 use Rattle.hr_parse.specs.declared.word.Lexeme.{Lexeme}
 use Rattle.hr_parse.specs.Words.{mark, keyword, sign, named, number, text, compare}
+use Rattle.hr_parse.specs.Readers.{Reader, and_then, pure, refuse, sees, sees_name, compares, expect, expect_equal, read_compare, read_name, negative, constant, listed_behind}
 use Rattle.hr_parse.specs.Trees.{minus, sum, difference, product, placed, simple}
 
--- ---- notation of rules: [ m x ], and x { "," x }
+-- which words are in a language, and with which tree
+abbrev pub Language : Type 0 → Type 1
+Language A = List Lexeme → A → Type 0
 
--- nothing, or a mark and what L says
-pub data Optional {A : Type 0} (m : Mark) (L : List Lexeme → A → Type 0) : List Lexeme → Option A → Type 0 where
-  none : Optional m L [] None
-  some : (p : ℕ) {u : List Lexeme} {a : A} → L u a → Optional m L (mark m p ∷ u) (Some a)
+-- ---- what rules give
 
--- one or more, with commas between
+-- a mark, and its place
+pub data IsMark (m : Mark) : List Lexeme → ℕ → Type 0 where
+  the : (p : ℕ) → IsMark m (mark m p ∷ []) p
+
+-- a comparison
+pub data IsCompare : List Lexeme → Op → Type 0 where
+  the : (o : Op) (p : ℕ) → IsCompare (compare o p ∷ []) o
+
+-- the comparison `=`
+pub data IsEqual : List Lexeme → Unit {0} → Type 0 where
+  the : (p : ℕ) → IsEqual (compare op.Eq p ∷ []) tt
+
+-- no words
+pub data Gives {A : Type 0} (a : A) : List Lexeme → A → Type 0 where
+  nothing : Gives a [] a
+
+-- what L says, and then what M says
+pub data Seq {A B : Type 0} (L : List Lexeme → A → Type 0) (M : A → List Lexeme → B → Type 0) : List Lexeme → B → Type 0 where
+  seq : {u v : List Lexeme} {a : A} {b : B} → L u a → M a v b → Seq L M (u ++ v) b
+
+-- what L says, with its tree put into another
+pub data Map {A B : Type 0} (h : A → B) (L : List Lexeme → A → Type 0) : List Lexeme → B → Type 0 where
+  map : {u : List Lexeme} {a : A} → L u a → Map h L u (h a)
+
+-- what L says or what M says
+pub data Either {A : Type 0} (L M : List Lexeme → A → Type 0) : List Lexeme → A → Type 0 where
+  in_left : {u : List Lexeme} {a : A} → L u a → Either L M u a
+  in_right : {u : List Lexeme} {a : A} → M u a → Either L M u a
+
+-- L { "," L }
 pub data Listed {A : Type 0} (L : List Lexeme → A → Type 0) : List Lexeme → List A → Type 0 where
   one : {u : List Lexeme} {a : A} → L u a → Listed L u (a ∷ [])
   more : (p : ℕ) {u v : List Lexeme} {a : A} {others : List A} → L u a → Listed L v others → Listed L (u ++ (sign sg.Comma p ∷ v)) (a ∷ others)
 
+-- ---- how rules are written
+
+-- What a rule gives. How it is read, and by which words one sees that it comes, needn't be believed.
+pub record Grammar (A : Type 0) : Type 1 where
+  pub gives : List Lexeme → A → Type 0
+  pub opens : List Lexeme → Bool
+  pub reads : Reader A
+
+-- a language with a reader of its own
+abbrev pub rule : {A : Type 0} → Language A → Reader A → Grammar A
+rule L f = record { gives = L; opens = λ _. false; reads = f }
+
+abbrev pub gives : {A : Type 0} → A → Grammar A
+gives a = rule (Gives a) (pure a)
+
+abbrev pub fixed : Mark → Grammar ℕ
+fixed m = record { gives = IsMark m; opens = sees m; reads = expect m }
+
+abbrev pub key : Keyword → Grammar ℕ
+key k = fixed (m.Keyword k)
+
+abbrev pub punct : Sign → Grammar ℕ
+punct s = fixed (m.Sign s)
+
+abbrev pub comparison : Grammar Op
+comparison = record { gives = IsCompare; opens = compares; reads = read_compare }
+
+infixl 10 ◌>>=◌
+abbrev pub ◌>>=◌ : {A B : Type 0} → Grammar A → (A → Grammar B) → Grammar B
+g >>= h = record { gives = Seq g.gives (λ a. (h a).gives); opens = g.opens; reads = λ words. and_then (g.reads words) (λ a. (h a).reads) }
+
+infixl 10 ◌>>◌
+abbrev pub ◌>>◌ : {A B : Type 0} → Grammar A → Grammar B → Grammar B
+g >> h = g >>= (λ _. h)
+
+infixl 12 ◌giving◌
+abbrev pub ◌giving◌ : {A B : Type 0} → Grammar A → (A → B) → Grammar B
+g giving h = record { gives = Map h g.gives; opens = g.opens; reads = λ words. and_then (g.reads words) (λ a. pure (h a)) }
+
+infixr 8 ◌or◌
+abbrev pub ◌or◌ : {A : Type 0} → Grammar A → Grammar A → Grammar A
+g or h = record {
+  gives = Either g.gives h.gives;
+  opens = λ words. if g.opens words then true else h.opens words;
+  reads = λ words. if g.opens words then g.reads words else h.reads words;
+}
+
+-- g, which one sees by a name
+abbrev pub by_name : {A : Type 0} → Grammar A → Grammar A
+by_name g = record { gives = g.gives; opens = sees_name; reads = g.reads }
+
+-- [ m g ]
+abbrev pub optional : {A : Type 0} → Mark → Grammar A → Grammar (Option A)
+optional m g = (do fixed m; g giving Some) or gives None
+
+-- g { "," g }; the number, here and below, bounds how many parts are read and how deep rules nest
+abbrev pub listed : {A : Type 0} → ℕ → Grammar A → Grammar (List A)
+listed n g = rule (Listed g.gives) (listed_behind g.reads n [])
+
 -- ---- names, literals, operands
 
 pub data IsName : List Lexeme → NameAt → Type 0 where
-  name : (n : List ℕ) (p : ℕ) → IsName (named n p ∷ []) (record { name = n; at = p })
+  the_name : (n : List ℕ) (p : ℕ) → IsName (named n p ∷ []) (record { name = n; at = p })
+
+abbrev pub name : Grammar NameAt
+name = record { gives = IsName; opens = sees_name; reads = read_name }
 
 -- column = name [ "." name ]
-pub data IsColumn : List Lexeme → ColumnAst → Type 0 where
-  column : {u v : List Lexeme} {a : NameAt} {b : Option NameAt} → IsName u a → Optional (m.Sign sg.Dot) IsName v b → IsColumn (u ++ v) (record { first = a; second = b })
+unfoldable pub column : Grammar ColumnAst
+column = do
+  first ← name
+  optional (m.Sign sg.Dot) name giving λ second. record { first = first; second = second }
+
+-- a number behind a sign, which stands at a place
+pub data IsNegative (at : ℕ) : List Lexeme → LiteralAst → Type 0 where
+  signed : (n p : ℕ) → n ≤ 2 ^ 63 → IsNegative at (number n p ∷ []) (record { value = lit.Int (minus n); at = at })
+
+-- number | text
+pub data IsConstant : List Lexeme → LiteralAst → Type 0 where
+  unsigned : (n p : ℕ) → n < 2 ^ 63 → IsConstant (number n p ∷ []) (record { value = lit.Int (pos n); at = p })
+  quoted : (t : List ℕ) (p : ℕ) → IsConstant (text t p ∷ []) (record { value = lit.Text t; at = p })
 
 -- literal = [ "-" ] number | text | NULL
-pub data IsLiteral : List Lexeme → LiteralAst → Type 0 where
-  positive : (n p : ℕ) → n < 2 ^ 63 → IsLiteral (number n p ∷ []) (record { value = lit.Int (pos n); at = p })
-  negative : (n p q : ℕ) → n ≤ 2 ^ 63 → IsLiteral (sign sg.Minus p ∷ number n q ∷ []) (record { value = lit.Int (minus n); at = p })
-  quoted : (t : List ℕ) (p : ℕ) → IsLiteral (text t p ∷ []) (record { value = lit.Text t; at = p })
-  null : (p : ℕ) → IsLiteral (keyword kw.Null p ∷ []) (record { value = lit.Null; at = p })
+unfoldable pub literal : Grammar LiteralAst
+literal = (do at ← punct sg.Minus; rule (IsNegative at) (negative at)) or (do at ← key kw.Null; gives (record { value = lit.Null; at = at })) or rule IsConstant constant
 
 -- operand = column | literal
-pub data IsOperand : List Lexeme → OperandAst → Type 0 where
-  column : {u : List Lexeme} {a : ColumnAst} → IsColumn u a → IsOperand u (operand_of.Column a)
-  literal : {u : List Lexeme} {a : LiteralAst} → IsLiteral u a → IsOperand u (operand_of.Literal a)
+unfoldable pub operand : Grammar OperandAst
+operand = (by_name column giving operand_of.Column) or (literal giving operand_of.Literal)
 
 -- ---- conditions
 
+-- operand AND operand
+unfoldable pub between : OperandAst → Bool → Grammar CondAst
+between left negated = do
+  low ← operand
+  key kw.And
+  operand giving λ high. cond_of.Between left low high negated
+
+-- "(" literal { "," literal } ")"
+unfoldable pub among : ℕ → OperandAst → Bool → Grammar CondAst
+among n left negated = do
+  punct sg.LeftParen
+  list ← listed n literal
+  punct sg.RightParen
+  gives (cond_of.Among left list negated)
+
+-- [ NOT ] NULL
+unfoldable pub nullity : OperandAst → Grammar CondAst
+nullity left = (do key kw.Not; key kw.Null; gives (cond_of.IsNull left true)) or (do key kw.Null; gives (cond_of.IsNull left false))
+
+abbrev pub range_or_list_of : ℕ → OperandAst → Bool → Grammar CondAst
+range_or_list_of n left negated = (do key kw.Between; between left negated) or (do key kw.In; among n left negated)
+
+-- [ NOT ] BETWEEN operand AND operand | [ NOT ] IN "(" literal { "," literal } ")"
+unfoldable pub range_or_list : ℕ → OperandAst → Grammar CondAst
+range_or_list n left = (do key kw.Not; range_or_list_of n left true) or range_or_list_of n left false
+
 -- check = compare operand | IS [ NOT ] NULL | [ NOT ] BETWEEN operand AND operand | [ NOT ] IN "(" literal { "," literal } ")",
 -- behind its left operand
-pub data IsCheck (left : OperandAst) : List Lexeme → CondAst → Type 0 where
-  compared : (o : Op) (p : ℕ) {u : List Lexeme} {a : OperandAst} → IsOperand u a → IsCheck left (compare o p ∷ u) (cond_of.Compare o left a)
-  is_null : (p q : ℕ) → IsCheck left (keyword kw.Is p ∷ keyword kw.Null q ∷ []) (cond_of.IsNull left false)
-  is_not_null : (p q r : ℕ) → IsCheck left (keyword kw.Is p ∷ keyword kw.Not q ∷ keyword kw.Null r ∷ []) (cond_of.IsNull left true)
-  between : (p q : ℕ) {u v : List Lexeme} {a b : OperandAst} → IsOperand u a → IsOperand v b
-      → IsCheck left (keyword kw.Between p ∷ (u ++ (keyword kw.And q ∷ v))) (cond_of.Between left a b false)
-  not_between : (o p q : ℕ) {u v : List Lexeme} {a b : OperandAst} → IsOperand u a → IsOperand v b
-      → IsCheck left (keyword kw.Not o ∷ keyword kw.Between p ∷ (u ++ (keyword kw.And q ∷ v))) (cond_of.Between left a b true)
-  among : (p q r : ℕ) {u : List Lexeme} {all : List LiteralAst} → Listed IsLiteral u all
-      → IsCheck left (keyword kw.In p ∷ sign sg.LeftParen q ∷ (u ++ (sign sg.RightParen r ∷ []))) (cond_of.Among left all false)
-  not_among : (o p q r : ℕ) {u : List Lexeme} {all : List LiteralAst} → Listed IsLiteral u all
-      → IsCheck left (keyword kw.Not o ∷ keyword kw.In p ∷ sign sg.LeftParen q ∷ (u ++ (sign sg.RightParen r ∷ []))) (cond_of.Among left all true)
+unfoldable pub check : ℕ → OperandAst → Grammar CondAst
+check n left = (do o ← comparison; operand giving λ right. cond_of.Compare o left right) or (do key kw.Is; nullity left) or range_or_list n left
+
+-- operand check
+unfoldable pub predicate : ℕ → Grammar CondAst
+predicate n = do
+  left ← operand
+  check n left
 
 mutual
   -- neg = NOT neg | "(" cond ")" | operand check
   pub data IsNeg : List Lexeme → CondAst → Type 0 where
     negation : (p : ℕ) {u : List Lexeme} {a : CondAst} → IsNeg u a → IsNeg (keyword kw.Not p ∷ u) (cond_of.Not a)
     parens : (p q : ℕ) {u : List Lexeme} {a : CondAst} → IsCond u a → IsNeg (sign sg.LeftParen p ∷ (u ++ (sign sg.RightParen q ∷ []))) a
-    test : {u v : List Lexeme} {left : OperandAst} {a : CondAst} → IsOperand u left → IsCheck left v a → IsNeg (u ++ v) a
+    test : {u : List Lexeme} {a : CondAst} → (predicate 0).gives u a → IsNeg u a
 
   -- conj = neg { AND neg }, grouped from the left
   pub data IsConj : List Lexeme → CondAst → Type 0 where
@@ -109,12 +233,39 @@ mutual
     or_done : {a : CondAst} → OrMore a [] a
     or_more : (p : ℕ) {u v : List Lexeme} {a b c : CondAst} → IsConj u b → OrMore (cond_of.Or a b) v c → OrMore a (keyword kw.Or p ∷ (u ++ v)) c
 
+abbrev pub neg_of : ℕ → Grammar CondAst → Grammar CondAst → Grammar CondAst
+neg_of n part whole = (do key kw.Not; part giving cond_of.Not) or (do punct sg.LeftParen; inner ← whole; punct sg.RightParen; gives inner) or predicate n
+
+unfoldable mutual
+  pub read_neg : ℕ → Reader CondAst
+  read_neg zero = refuse
+  read_neg (suc n) = (neg_of n (rule IsNeg (read_neg n)) (rule IsCond (read_cond n))).reads
+
+  pub read_conj : ℕ → Reader CondAst
+  read_conj zero = refuse
+  read_conj (suc n) = (rule IsNeg (read_neg n) >>= λ first. rule (AndMore first) (conj_behind n first)).reads
+
+  pub conj_behind : ℕ → CondAst → Reader CondAst
+  conj_behind zero left = refuse
+  conj_behind (suc n) left = ((do key kw.And; right ← rule IsNeg (read_neg n); rule (AndMore (cond_of.And left right)) (conj_behind n (cond_of.And left right))) or gives left).reads
+
+  pub read_cond : ℕ → Reader CondAst
+  read_cond zero = refuse
+  read_cond (suc n) = (rule IsConj (read_conj n) >>= λ first. rule (OrMore first) (cond_behind n first)).reads
+
+  pub cond_behind : ℕ → CondAst → Reader CondAst
+  cond_behind zero left = refuse
+  cond_behind (suc n) left = ((do key kw.Or; right ← rule IsConj (read_conj n); rule (OrMore (cond_of.Or left right)) (cond_behind n (cond_of.Or left right))) or gives left).reads
+
+abbrev pub condition : ℕ → Grammar CondAst
+condition n = rule IsCond (read_cond n)
+
 -- ---- expressions
 
 mutual
   -- factor = literal | column | "(" expr ")"
   pub data IsFactor : List Lexeme → ExprAst → Type 0 where
-    operand : {u : List Lexeme} {a : OperandAst} → IsOperand u a → IsFactor u (simple a)
+    plain : (a : OperandAst) {u : List Lexeme} → operand.gives u a → IsFactor u (simple a)
     parens : (p q : ℕ) {u : List Lexeme} {a : ExprAst} → IsExpr u a → IsFactor (sign sg.LeftParen p ∷ (u ++ (sign sg.RightParen q ∷ []))) (placed a p)
 
   -- term = factor { "*" factor }, grouped from the left
@@ -134,99 +285,174 @@ mutual
     plus_more : (p : ℕ) {u v : List Lexeme} {a b c : ExprAst} → IsTerm u b → PlusMore (sum a b) v c → PlusMore a (sign sg.Plus p ∷ (u ++ v)) c
     minus_more : (p : ℕ) {u v : List Lexeme} {a b c : ExprAst} → IsTerm u b → PlusMore (difference a b) v c → PlusMore a (sign sg.Minus p ∷ (u ++ v)) c
 
+abbrev pub factor_of : Grammar ExprAst → Grammar ExprAst
+factor_of whole = (do at ← punct sg.LeftParen; inner ← whole; punct sg.RightParen; gives (placed inner at)) or (operand giving simple)
+
+unfoldable mutual
+  pub read_factor : ℕ → Reader ExprAst
+  read_factor zero = refuse
+  read_factor (suc n) = (factor_of (rule IsExpr (read_expr n))).reads
+
+  pub read_term : ℕ → Reader ExprAst
+  read_term zero = refuse
+  read_term (suc n) = (rule IsFactor (read_factor n) >>= λ first. rule (TimesMore first) (term_behind n first)).reads
+
+  pub term_behind : ℕ → ExprAst → Reader ExprAst
+  term_behind zero left = refuse
+  term_behind (suc n) left = ((do punct sg.Star; right ← rule IsFactor (read_factor n); rule (TimesMore (product left right)) (term_behind n (product left right))) or gives left).reads
+
+  pub read_expr : ℕ → Reader ExprAst
+  read_expr zero = refuse
+  read_expr (suc n) = (rule IsTerm (read_term n) >>= λ first. rule (PlusMore first) (expr_behind n first)).reads
+
+  pub expr_behind : ℕ → ExprAst → Reader ExprAst
+  expr_behind zero left = refuse
+  expr_behind (suc n) left = (
+      (do punct sg.Plus; right ← rule IsTerm (read_term n); rule (PlusMore (sum left right)) (expr_behind n (sum left right)))
+      or (do punct sg.Minus; right ← rule IsTerm (read_term n); rule (PlusMore (difference left right)) (expr_behind n (difference left right)))
+      or gives left).reads
+
+abbrev pub expression : ℕ → Grammar ExprAst
+expression n = rule IsExpr (read_expr n)
+
 -- ---- SELECT
+
+-- column ")"
+unfoldable pub aggregated : AggWord → ℕ → Grammar ItemAst
+aggregated word at = do
+  column ← column
+  punct sg.RightParen
+  gives (item_of.Aggregate word column at)
+
+-- "(" "*" ")" | "(" column ")"
+unfoldable pub counted : ℕ → Grammar ItemAst
+counted at = do
+  punct sg.LeftParen
+  (do punct sg.Star; punct sg.RightParen; gives (item_of.CountAll at)) or aggregated word_of.Count at
+
+-- "(" column ")"
+unfoldable pub folded : AggWord → ℕ → Grammar ItemAst
+folded word at = do
+  punct sg.LeftParen
+  aggregated word at
 
 -- aggregate = COUNT "(" "*" ")" | ( COUNT | SUM | MIN | MAX ) "(" column ")"
 -- item = aggregate | expr
-pub data IsItem : List Lexeme → ItemAst → Type 0 where
-  count_all : (p q r s : ℕ) → IsItem (keyword kw.Count p ∷ sign sg.LeftParen q ∷ sign sg.Star r ∷ sign sg.RightParen s ∷ []) (item_of.CountAll p)
-  count : (p q r : ℕ) {u : List Lexeme} {a : ColumnAst} → IsColumn u a
-      → IsItem (keyword kw.Count p ∷ sign sg.LeftParen q ∷ (u ++ (sign sg.RightParen r ∷ []))) (item_of.Aggregate word_of.Count a p)
-  total : (p q r : ℕ) {u : List Lexeme} {a : ColumnAst} → IsColumn u a
-      → IsItem (keyword kw.Sum p ∷ sign sg.LeftParen q ∷ (u ++ (sign sg.RightParen r ∷ []))) (item_of.Aggregate word_of.Sum a p)
-  least : (p q r : ℕ) {u : List Lexeme} {a : ColumnAst} → IsColumn u a
-      → IsItem (keyword kw.Min p ∷ sign sg.LeftParen q ∷ (u ++ (sign sg.RightParen r ∷ []))) (item_of.Aggregate word_of.Min a p)
-  greatest : (p q r : ℕ) {u : List Lexeme} {a : ColumnAst} → IsColumn u a
-      → IsItem (keyword kw.Max p ∷ sign sg.LeftParen q ∷ (u ++ (sign sg.RightParen r ∷ []))) (item_of.Aggregate word_of.Max a p)
-  plain : {u : List Lexeme} {a : ExprAst} → IsExpr u a → IsItem u (item_of.Plain a)
+unfoldable pub item : ℕ → Grammar ItemAst
+item n =
+    (key kw.Count >>= counted)
+    or (key kw.Sum >>= folded word_of.Sum)
+    or (key kw.Min >>= folded word_of.Min)
+    or (key kw.Max >>= folded word_of.Max)
+    or (expression n giving item_of.Plain)
 
 -- items = "*" | item { "," item }
-pub data AreItems : List Lexeme → Items → Type 0 where
-  star : (p : ℕ) → AreItems (sign sg.Star p ∷ []) (items_of.Star p)
-  listed : {u : List Lexeme} {all : List ItemAst} → Listed IsItem u all → AreItems u (items_of.Listed all)
+unfoldable pub items : ℕ → Grammar Items
+items n = (do at ← punct sg.Star; gives (items_of.Star at)) or (listed n (item n) giving items_of.Listed)
 
 -- [ [ AS ] name ]
-pub data IsAlias : List Lexeme → Option NameAt → Type 0 where
-  none : IsAlias [] None
-  plain : {u : List Lexeme} {a : NameAt} → IsName u a → IsAlias u (Some a)
-  behind_as : (p : ℕ) {u : List Lexeme} {a : NameAt} → IsName u a → IsAlias (keyword kw.As p ∷ u) (Some a)
+unfoldable pub alias : Grammar (Option NameAt)
+alias = (do key kw.As; name giving Some) or (name giving Some) or gives None
 
 -- entry = name [ [ AS ] name ]
-pub data IsEntry : List Lexeme → EntryAst → Type 0 where
-  entry : {u v : List Lexeme} {a : NameAt} {b : Option NameAt} → IsName u a → IsAlias v b → IsEntry (u ++ v) (record { table = a; alias = b })
+unfoldable pub entry : Grammar EntryAst
+entry = do
+  table ← name
+  alias giving λ alias. record { table = table; alias = alias }
 
 -- entry ON cond
-pub data IsJoined : List Lexeme → JoinAst → Type 0 where
-  joined : (p : ℕ) {u v : List Lexeme} {a : EntryAst} {b : CondAst} → IsEntry u a → IsCond v b → IsJoined (u ++ (keyword kw.On p ∷ v)) (record { entry = a; on = b })
+unfoldable pub joined : ℕ → Grammar JoinAst
+joined n = do
+  entry ← entry
+  key kw.On
+  condition n giving λ on. record { entry = entry; on = on }
 
 -- [ [ INNER ] JOIN entry ON cond ]
-pub data IsJoin : List Lexeme → Option JoinAst → Type 0 where
-  none : IsJoin [] None
-  join : (p : ℕ) {u : List Lexeme} {a : JoinAst} → IsJoined u a → IsJoin (keyword kw.Join p ∷ u) (Some a)
-  inner_join : (p q : ℕ) {u : List Lexeme} {a : JoinAst} → IsJoined u a → IsJoin (keyword kw.Inner p ∷ keyword kw.Join q ∷ u) (Some a)
+unfoldable pub join : ℕ → Grammar (Option JoinAst)
+join n = (do key kw.Inner; key kw.Join; joined n giving Some) or (do key kw.Join; joined n giving Some) or gives None
+
+-- [ WHERE cond ]
+unfoldable pub filter : ℕ → Grammar (Option CondAst)
+filter n = optional (m.Keyword kw.Where) (condition n)
 
 -- [ GROUP BY column { "," column } ]
-pub data AreGroups : List Lexeme → List ColumnAst → Type 0 where
-  none : AreGroups [] []
-  groups : (p q : ℕ) {u : List Lexeme} {all : List ColumnAst} → Listed IsColumn u all → AreGroups (keyword kw.Group p ∷ keyword kw.By q ∷ u) all
+unfoldable pub groups : ℕ → Grammar (List ColumnAst)
+groups n = (do key kw.Group; key kw.By; listed n column) or gives []
 
 -- select = SELECT items FROM entry [ [ INNER ] JOIN entry ON cond ] [ WHERE cond ] [ GROUP BY column { "," column } ], behind its first word
-pub data IsSelect : List Lexeme → SelectAst → Type 0 where
-  select : (p : ℕ) {u v w x y : List Lexeme} {a : Items} {b : EntryAst} {c : Option JoinAst} {d : Option CondAst} {e : List ColumnAst}
-      → AreItems u a → IsEntry v b → IsJoin w c → Optional (m.Keyword kw.Where) IsCond x d → AreGroups y e
-      → IsSelect (u ++ (keyword kw.From p ∷ (v ++ (w ++ (x ++ y))))) (record { items = a; first = b; join = c; filter = d; groups = e })
+unfoldable pub select : ℕ → Grammar SelectAst
+select n = do
+  items ← items n
+  key kw.From
+  first ← entry
+  join ← join n
+  filter ← filter n
+  groups n giving λ groups. record { items = items; first = first; join = join; filter = filter; groups = groups }
 
 -- ---- INSERT, UPDATE and DELETE, each behind its first word
 
 -- tuple = "(" literal { "," literal } ")"
-pub data IsTuple : List Lexeme → TupleAst → Type 0 where
-  tuple : (p q : ℕ) {u : List Lexeme} {all : List LiteralAst} → Listed IsLiteral u all
-      → IsTuple (sign sg.LeftParen p ∷ (u ++ (sign sg.RightParen q ∷ []))) (record { values = all; at = p })
+unfoldable pub tuple : ℕ → Grammar TupleAst
+tuple n = do
+  at ← punct sg.LeftParen
+  values ← listed n literal
+  punct sg.RightParen
+  gives (record { values = values; at = at })
 
 -- [ "(" name { "," name } ")" ]
-pub data AreColumns : List Lexeme → List NameAt → Type 0 where
-  none : AreColumns [] []
-  columns : (p q : ℕ) {u : List Lexeme} {all : List NameAt} → Listed IsName u all → AreColumns (sign sg.LeftParen p ∷ (u ++ (sign sg.RightParen q ∷ []))) all
+unfoldable pub named_columns : ℕ → Grammar (List NameAt)
+named_columns n = (do punct sg.LeftParen; all ← listed n name; punct sg.RightParen; gives all) or gives []
 
 -- insert = INSERT INTO name [ "(" name { "," name } ")" ] VALUES tuple { "," tuple }
-pub data IsInsert : List Lexeme → InsertAst → Type 0 where
-  insert : (p q : ℕ) {u v w : List Lexeme} {a : NameAt} {b : List NameAt} {c : List TupleAst} → IsName u a → AreColumns v b → Listed IsTuple w c
-      → IsInsert (keyword kw.Into p ∷ (u ++ (v ++ (keyword kw.Values q ∷ w)))) (record { table = a; columns = b; tuples = c })
+unfoldable pub insert : ℕ → Grammar InsertAst
+insert n = do
+  key kw.Into
+  table ← name
+  columns ← named_columns n
+  key kw.Values
+  listed n (tuple n) giving λ tuples. record { table = table; columns = columns; tuples = tuples }
 
 -- name "=" expr
-pub data IsSet : List Lexeme → SetAst → Type 0 where
-  assigned : (p : ℕ) {u v : List Lexeme} {a : NameAt} {b : ExprAst} → IsName u a → IsExpr v b → IsSet (u ++ (compare op.Eq p ∷ v)) (record { column = a; value = b })
+unfoldable pub assignment : ℕ → Grammar SetAst
+assignment n = do
+  column ← name
+  rule IsEqual expect_equal
+  expression n giving λ value. record { column = column; value = value }
 
 -- update = UPDATE name SET name "=" expr { "," name "=" expr } [ WHERE cond ]
-pub data IsUpdate : List Lexeme → UpdateAst → Type 0 where
-  update : (p : ℕ) {u v w : List Lexeme} {a : NameAt} {b : List SetAst} {c : Option CondAst} → IsName u a → Listed IsSet v b → Optional (m.Keyword kw.Where) IsCond w c
-      → IsUpdate (u ++ (keyword kw.Set p ∷ (v ++ w))) (record { table = a; sets = b; filter = c })
+unfoldable pub update : ℕ → Grammar UpdateAst
+update n = do
+  table ← name
+  key kw.Set
+  sets ← listed n (assignment n)
+  filter n giving λ filter. record { table = table; sets = sets; filter = filter }
 
 -- delete = DELETE FROM name [ WHERE cond ]
-pub data IsDelete : List Lexeme → DeleteAst → Type 0 where
-  delete : (p : ℕ) {u v : List Lexeme} {a : NameAt} {b : Option CondAst} → IsName u a → Optional (m.Keyword kw.Where) IsCond v b
-      → IsDelete (keyword kw.From p ∷ (u ++ v)) (record { table = a; filter = b })
+unfoldable pub delete : ℕ → Grammar DeleteAst
+delete n = do
+  key kw.From
+  table ← name
+  filter n giving λ filter. record { table = table; filter = filter }
 
 -- ---- statements
 
 -- select | insert | update | delete
-pub data IsCommand : List Lexeme → Ast → Type 0 where
-  select : (p : ℕ) {u : List Lexeme} {a : SelectAst} → IsSelect u a → IsCommand (keyword kw.Select p ∷ u) (ast_of.Select a)
-  insert : (p : ℕ) {u : List Lexeme} {a : InsertAst} → IsInsert u a → IsCommand (keyword kw.Insert p ∷ u) (ast_of.Insert a)
-  update : (p : ℕ) {u : List Lexeme} {a : UpdateAst} → IsUpdate u a → IsCommand (keyword kw.Update p ∷ u) (ast_of.Update a)
-  delete : (p : ℕ) {u : List Lexeme} {a : DeleteAst} → IsDelete u a → IsCommand (keyword kw.Delete p ∷ u) (ast_of.Delete a)
+unfoldable pub command : ℕ → Grammar Ast
+command n =
+    (do key kw.Select; select n giving ast_of.Select)
+    or (do key kw.Insert; insert n giving ast_of.Insert)
+    or (do key kw.Update; update n giving ast_of.Update)
+    or (do key kw.Delete; delete n giving ast_of.Delete)
 
 -- statement = ( select | insert | update | delete ) [ ";" ]
-pub data IsStatement : List Lexeme → Ast → Type 0 where
-  plain : {u : List Lexeme} {a : Ast} → IsCommand u a → IsStatement u a
-  ended : (p : ℕ) {u : List Lexeme} {a : Ast} → IsCommand u a → IsStatement (u ++ (sign sg.Semicolon p ∷ [])) a
+unfoldable pub statement : ℕ → Grammar Ast
+statement n = do
+  a ← command n
+  (do punct sg.Semicolon; gives a) or gives a
+
+-- no bound plays a part in what is given
+abbrev pub IsStatement : List Lexeme → Ast → Type 0
+IsStatement = (statement 0).gives
+
+abbrev pub IsTuple : List Lexeme → TupleAst → Type 0
+IsTuple = (tuple 0).gives

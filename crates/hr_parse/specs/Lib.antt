@@ -1,6 +1,6 @@
 pub mod Words
 pub mod Trees
 pub mod Lexemes
-pub mod Grammar
 pub mod Readers
+pub mod Grammar
 pub mod Parse

@@ -12,8 +12,8 @@ use Rattle.hr_parse.specs.declared.parsing.ParseError.{ParseError}
 use Rattle.hr_parse.specs.declared.parsing.ParseError.TheVariants as e
 use Rattle.hr_parse.specs.declared.word.Lexeme.{Lexeme}
 use Rattle.hr_parse.specs.Lexemes.{lexemes}
-use Rattle.hr_parse.specs.Grammar.{IsStatement, IsTuple}
-use Rattle.hr_parse.specs.Readers.{Outcome, statement, only_tuple}
+use Rattle.hr_parse.specs.Readers.{Outcome, alone}
+use Rattle.hr_parse.specs.Grammar.{IsStatement, IsTuple, statement, tuple}
 
 -- ---- words and a language
 
@@ -109,8 +109,8 @@ depth_for words = 4 * length words + 6
 
 -- the tree of the statement that a text is, or why it is none
 unfoldable pub parsed : List ℕ → Result Ast ParseError
-parsed text = settled (statement (depth_for (words text)) (words text)) (error text) (length text)
+parsed text = settled (alone (statement (depth_for (words text))).reads (words text)) (error text) (length text)
 
 -- the tree of the tuple that a text is from a place on, or why it is none
 unfoldable pub parsed_tuple : ℕ → List ℕ → Result TupleAst ParseError
-parsed_tuple from text = settled (only_tuple (depth_for (words_from from text)) (words_from from text)) (error_from from text) (length text)
+parsed_tuple from text = settled (alone (tuple (depth_for (words_from from text))).reads (words_from from text)) (error_from from text) (length text)

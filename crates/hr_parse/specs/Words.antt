@@ -15,16 +15,12 @@ use Rattle.hr_parse.specs.declared.word.Lexeme.{Lexeme}
 unfoldable pub same_mark : Mark → Mark → Bool
 same_mark (m.Keyword a) (m.Keyword b) = sameb keywords.the_type a b
 same_mark (m.Sign a) (m.Sign b) = sameb signs.the_type a b
-same_mark (m.Keyword a) (m.Sign b) = false
-same_mark (m.Sign a) (m.Keyword b) = false
+same_mark _ _ = false
 
 -- whether a word is this mark
 abbrev pub is_mark : Mark → Word → Bool
 is_mark given (w.Fixed other) = same_mark given other
-is_mark given (w.Name n) = false
-is_mark given (w.Number n) = false
-is_mark given (w.Text t) = false
-is_mark given (w.Compare o) = false
+is_mark given _ = false
 
 -- a mark, a name, a number, a text and a comparison at a place
 abbrev pub mark : Mark → ℕ → Lexeme

@@ -1,6 +1,6 @@
 //! Conditions. A parenthesis and a NOT go one level deeper; AND and OR are read by loops.
 
-ghost use Rattle.hr_parse.specs.Readers as spec;
+ghost use Rattle.hr_parse.specs.Grammar as spec;
 ghost use Rattle.hr_parse.specs.Readers.{Reads};
 
 use crate::ast::{CondAst, LiteralAst, OperandAst};
@@ -12,9 +12,9 @@ use sqlite_items::Boxed;
 
 impl<'a> Parser<'a> {
     /// What stands behind BETWEEN.
-    #[tactic(auto, unfolding(crate::specs::Readers::between))]
+    #[tactic(auto, unfolding(crate::specs::Grammar::between))]
     fn between(&mut self, operand: Boxed<OperandAst>, negated: bool) -> Result<Boxed<CondAst>, Stop>
-        ensures { Reads (spec.between operand negated self.old.rest.now) result self.new.rest.now }
+        ensures { Reads ((spec.between operand negated).reads self.old.rest.now) result self.new.rest.now }
     {
         let low = self.boxed_operand()?;
         self.expect(Mark::Keyword(Keyword::And))?;
@@ -29,14 +29,14 @@ impl<'a> Parser<'a> {
     }
 
     /// What stands behind IN.
-    #[tactic(auto, unfolding(crate::specs::Readers::among))]
+    #[tactic(auto, unfolding(crate::specs::Grammar::among))]
     fn among(
         &mut self,
         depth: usize,
         operand: Boxed<OperandAst>,
         negated: bool,
     ) -> Result<Boxed<CondAst>, Stop>
-        ensures { Reads (spec.among depth operand negated self.old.rest.now) result self.new.rest.now }
+        ensures { Reads ((spec.among depth operand negated).reads self.old.rest.now) result self.new.rest.now }
     {
         self.expect(Mark::Sign(Sign::LeftParen))?;
         let list = listed::<LiteralAst>(self, depth)?;
@@ -50,9 +50,9 @@ impl<'a> Parser<'a> {
     }
 
     /// What stands behind IS.
-    #[tactic(auto, unfolding(crate::specs::Readers::nullity))]
+    #[tactic(auto, unfolding(crate::specs::Grammar::nullity))]
     fn nullity(&mut self, operand: Boxed<OperandAst>) -> Result<Boxed<CondAst>, Stop>
-        ensures { Reads (spec.nullity operand self.old.rest.now) result self.new.rest.now }
+        ensures { Reads ((spec.nullity operand).reads self.old.rest.now) result self.new.rest.now }
     {
         let negated = self.eat(Mark::Keyword(Keyword::Not));
         self.expect(Mark::Keyword(Keyword::Null))?;
@@ -60,13 +60,13 @@ impl<'a> Parser<'a> {
     }
 
     /// `[ NOT ] BETWEEN operand AND operand | [ NOT ] IN "(" literal { "," literal } ")"`
-    #[tactic(auto, unfolding(crate::specs::Readers::range_or_list))]
+    #[tactic(auto, unfolding(crate::specs::Grammar::range_or_list))]
     fn range_or_list(
         &mut self,
         depth: usize,
         operand: Boxed<OperandAst>,
     ) -> Result<Boxed<CondAst>, Stop>
-        ensures { Reads (spec.range_or_list depth operand self.old.rest.now) result self.new.rest.now }
+        ensures { Reads ((spec.range_or_list depth operand).reads self.old.rest.now) result self.new.rest.now }
     {
         let negated = self.eat(Mark::Keyword(Keyword::Not));
         if self.eat(Mark::Keyword(Keyword::Between)) {
@@ -79,9 +79,9 @@ impl<'a> Parser<'a> {
     }
 
     /// `check = compare operand | IS [ NOT ] NULL | ..`, behind its left operand.
-    #[tactic(auto, unfolding(crate::specs::Readers::check))]
+    #[tactic(auto, unfolding(crate::specs::Grammar::check))]
     fn check(&mut self, depth: usize, operand: Boxed<OperandAst>) -> Result<Boxed<CondAst>, Stop>
-        ensures { Reads (spec.check depth operand self.old.rest.now) result self.new.rest.now }
+        ensures { Reads ((spec.check depth operand).reads self.old.rest.now) result self.new.rest.now }
     {
         if let Some(op) = self.eat_compare() {
             let right = self.boxed_operand()?;
@@ -94,9 +94,9 @@ impl<'a> Parser<'a> {
     }
 
     /// `operand check`
-    #[tactic(auto, unfolding(crate::specs::Readers::predicate))]
+    #[tactic(auto, unfolding(crate::specs::Grammar::predicate))]
     fn predicate(&mut self, depth: usize) -> Result<Boxed<CondAst>, Stop>
-        ensures { Reads (spec.predicate depth self.old.rest.now) result self.new.rest.now }
+        ensures { Reads ((spec.predicate depth).reads self.old.rest.now) result self.new.rest.now }
     {
         let operand = self.boxed_operand()?;
         self.check(depth, operand)
@@ -104,9 +104,9 @@ impl<'a> Parser<'a> {
 
     /// `neg = NOT neg | "(" cond ")" | operand check`
     #[cycle(cond)]
-    #[tactic(auto, unfolding(crate::specs::Readers::neg))]
+    #[tactic(auto, unfolding(crate::specs::Grammar::read_neg))]
     fn neg(&mut self, depth: usize) -> Result<Boxed<CondAst>, Stop>
-        ensures { Reads (spec.neg depth self.old.rest.now) result self.new.rest.now }
+        ensures { Reads (spec.read_neg depth self.old.rest.now) result self.new.rest.now }
     {
         let depth = deeper(depth)?;
         if self.eat(Mark::Keyword(Keyword::Not)) {
@@ -123,9 +123,9 @@ impl<'a> Parser<'a> {
 
     /// `conj = neg { AND neg }`
     #[cycle(cond)]
-    #[tactic(auto, unfolding(crate::specs::Readers::neg))]
+    #[tactic(auto, unfolding(crate::specs::Grammar::read_neg))]
     fn conj(&mut self, depth: usize) -> Result<Boxed<CondAst>, Stop>
-        ensures { Reads (spec.conj depth self.old.rest.now) result self.new.rest.now }
+        ensures { Reads (spec.read_conj depth self.old.rest.now) result self.new.rest.now }
     {
         let depth = deeper(depth)?;
         let mut left = self.neg(depth)?;
@@ -140,9 +140,9 @@ impl<'a> Parser<'a> {
 
     /// `cond = conj { OR conj }`
     #[cycle(cond)]
-    #[tactic(auto, unfolding(crate::specs::Readers::neg))]
+    #[tactic(auto, unfolding(crate::specs::Grammar::read_neg))]
     fn boxed_cond(&mut self, depth: usize) -> Result<Boxed<CondAst>, Stop>
-        ensures { Reads (spec.cond depth self.old.rest.now) result self.new.rest.now }
+        ensures { Reads (spec.read_cond depth self.old.rest.now) result self.new.rest.now }
     {
         let depth = deeper(depth)?;
         let mut left = self.conj(depth)?;
@@ -157,7 +157,7 @@ impl<'a> Parser<'a> {
 
     /// A condition.
     pub fn cond(&mut self, depth: usize) -> Result<CondAst, Stop>
-        ensures { Reads (spec.cond depth self.old.rest.now) result self.new.rest.now }
+        ensures { Reads (spec.read_cond depth self.old.rest.now) result self.new.rest.now }
     {
         Ok(self.boxed_cond(depth)?.into_inner())
     }

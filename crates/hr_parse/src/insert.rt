@@ -1,8 +1,8 @@
 //! INSERT.
 
 ghost use Rattle.std.specs.Prelude.{[]};
-ghost use Rattle.hr_parse.specs.Readers as spec;
-ghost use Rattle.hr_parse.specs.Readers.{Reads};
+ghost use Rattle.hr_parse.specs.Grammar as spec;
+ghost use Rattle.hr_parse.specs.Readers.{Reads, alone};
 
 use crate::ast::{InsertAst, LiteralAst, NameAt, TupleAst};
 use crate::list::{Part, listed};
@@ -13,20 +13,19 @@ use hr_rel::Seq;
 
 impl<'a> Parser<'a> {
     /// `tuple = "(" literal { "," literal } ")"`
-    #[tactic(auto, unfolding(crate::specs::Readers::tuple))]
+    #[tactic(auto, unfolding(crate::specs::Grammar::tuple))]
     fn tuple(&mut self, depth: usize) -> Result<TupleAst, Stop>
-        ensures { Reads (spec.tuple depth self.old.rest.now) result self.new.rest.now }
+        ensures { Reads ((spec.tuple depth).reads self.old.rest.now) result self.new.rest.now }
     {
-        let at = self.expect_at(Mark::Sign(Sign::LeftParen))?;
+        let at = self.expect(Mark::Sign(Sign::LeftParen))?;
         let values = listed::<LiteralAst>(self, depth)?;
         self.expect(Mark::Sign(Sign::RightParen))?;
         Ok(TupleAst { values, at })
     }
 
     /// A tuple, and then the end.
-    #[tactic(auto, unfolding(crate::specs::Readers::only_tuple))]
     pub fn only_tuple(&mut self, depth: usize) -> Result<TupleAst, Stop>
-        ensures { Reads (spec.only_tuple depth self.old.rest.now) result self.new.rest.now }
+        ensures { Reads (alone (spec.tuple depth).reads self.old.rest.now) result self.new.rest.now }
     {
         let tuple = self.tuple(depth)?;
         self.expect_end()?;
@@ -34,9 +33,9 @@ impl<'a> Parser<'a> {
     }
 
     /// `[ "(" name { "," name } ")" ]`
-    #[tactic(auto, unfolding(crate::specs::Readers::named_columns))]
+    #[tactic(auto, unfolding(crate::specs::Grammar::named_columns))]
     fn named_columns(&mut self, depth: usize) -> Result<Seq<NameAt>, Stop>
-        ensures { Reads (spec.named_columns depth self.old.rest.now) result self.new.rest.now }
+        ensures { Reads ((spec.named_columns depth).reads self.old.rest.now) result self.new.rest.now }
     {
         if self.eat(Mark::Sign(Sign::LeftParen)) {
             let columns = listed::<NameAt>(self, depth)?;
@@ -48,9 +47,9 @@ impl<'a> Parser<'a> {
     }
 
     /// What stands behind INSERT.
-    #[tactic(auto, unfolding(crate::specs::Readers::insert))]
+    #[tactic(auto, unfolding(crate::specs::Grammar::insert))]
     pub fn insert(&mut self, depth: usize) -> Result<InsertAst, Stop>
-        ensures { Reads (spec.insert depth self.old.rest.now) result self.new.rest.now }
+        ensures { Reads ((spec.insert depth).reads self.old.rest.now) result self.new.rest.now }
     {
         self.expect(Mark::Keyword(Keyword::Into))?;
         let table = self.name()?;
@@ -66,7 +65,7 @@ impl<'a> Parser<'a> {
 }
 
 impl Part for TupleAst {
-    ghost reader = { spec.tuple };
+    ghost reader = { λ n. (spec.tuple n).reads };
 
     fn part(parser: &mut Parser<'_>, depth: usize) -> Result<TupleAst, Stop> {
         parser.tuple(depth)

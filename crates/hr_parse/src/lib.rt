@@ -8,7 +8,6 @@ mod expr;
 mod insert;
 mod lexeme;
 mod list;
-mod name;
 mod operand;
 mod parser;
 mod parsing;

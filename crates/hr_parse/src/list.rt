@@ -1,6 +1,7 @@
 //! Lists of one part or more, with commas between.
 
 ghost use Rattle.std.specs.Prelude.{[], ◌≡◌};
+ghost use Rattle.hr_parse.specs.Grammar as grammar;
 ghost use Rattle.hr_parse.specs.Readers as spec;
 ghost use Rattle.hr_parse.specs.Readers.{Reads};
 
@@ -22,7 +23,7 @@ pub trait Part: Drop {
 }
 
 impl Part for NameAt {
-    ghost reader = { λ _. spec.name };
+    ghost reader = { λ _. spec.read_name };
 
     fn part(parser: &mut Parser<'_>, _depth: usize) -> Result<NameAt, Stop> {
         parser.name()
@@ -30,7 +31,7 @@ impl Part for NameAt {
 }
 
 impl Part for ColumnAst {
-    ghost reader = { λ _. spec.column };
+    ghost reader = { λ _. grammar.column.reads };
 
     fn part(parser: &mut Parser<'_>, _depth: usize) -> Result<ColumnAst, Stop> {
         parser.column()
@@ -38,7 +39,7 @@ impl Part for ColumnAst {
 }
 
 impl Part for LiteralAst {
-    ghost reader = { λ _. spec.literal };
+    ghost reader = { λ _. grammar.literal.reads };
 
     fn part(parser: &mut Parser<'_>, _depth: usize) -> Result<LiteralAst, Stop> {
         parser.literal()

@@ -1,10 +1,11 @@
-//! Literals and operands.
+//! Names, columns, literals and operands.
 
 ghost use Rattle.std.specs.Prelude.{◌≡◌};
+ghost use Rattle.hr_parse.specs.Grammar as grammar;
 ghost use Rattle.hr_parse.specs.Readers as spec;
 ghost use Rattle.hr_parse.specs.Readers.{Reads};
 
-use crate::ast::{LitAst, LiteralAst, OperandAst};
+use crate::ast::{ColumnAst, LitAst, LiteralAst, NameAt, OperandAst};
 use crate::parser::{Parser, Stop};
 use crate::word::{Mark, Sign, Word};
 use hr_lex::Keyword;
@@ -29,6 +30,37 @@ fn plain(number: u64) -> Option<i64>
 }
 
 impl<'a> Parser<'a> {
+    #[tactic(auto, unfolding(crate::specs::Readers::read_name))]
+    pub fn name(&mut self) -> Result<NameAt, Stop>
+        ensures { Reads (spec.read_name self.old.rest.now) result self.new.rest.now }
+    {
+        if let [first, rest @ ..] = self.rest
+            && let Word::Name(name) = &first.word
+        {
+            self.rest = rest;
+            Ok(NameAt {
+                name: *name,
+                at: first.at,
+            })
+        } else {
+            Err(Stop::Unexpected)
+        }
+    }
+
+    /// `column = name [ "." name ]`
+    #[tactic(auto, unfolding(crate::specs::Grammar::column))]
+    pub fn column(&mut self) -> Result<ColumnAst, Stop>
+        ensures { Reads (grammar.column.reads self.old.rest.now) result self.new.rest.now }
+    {
+        let first = self.name()?;
+        let second = if self.eat(Mark::Sign(Sign::Dot)) {
+            Some(self.name()?)
+        } else {
+            None
+        };
+        Ok(ColumnAst { first, second })
+    }
+
     /// The number of a literal, behind its sign at `at`.
     #[tactic(auto, unfolding(crate::specs::Readers::negative))]
     fn negative(&mut self, at: u32) -> Result<LiteralAst, Stop>
@@ -48,47 +80,31 @@ impl<'a> Parser<'a> {
         }
     }
 
-    /// A number without a sign.
-    #[tactic(auto, unfolding(crate::specs::Readers::unsigned))]
-    fn unsigned(&mut self) -> Result<LiteralAst, Stop>
-        ensures { Reads (spec.unsigned self.old.rest.now) result self.new.rest.now }
-    {
-        if let [first, rest @ ..] = self.rest
-            && let Word::Number(number) = &first.word
-            && let Some(value) = plain(*number)
-        {
-            self.rest = rest;
-            Ok(LiteralAst {
-                value: LitAst::Int(value),
-                at: first.at,
-            })
-        } else {
-            Err(Stop::Unexpected)
-        }
-    }
-
     /// A text, or a number without a sign.
-    #[tactic(auto, unfolding(crate::specs::Readers::constant, crate::specs::Readers::unsigned))]
+    #[tactic(auto, unfolding(crate::specs::Readers::constant))]
     fn constant(&mut self) -> Result<LiteralAst, Stop>
         ensures { Reads (spec.constant self.old.rest.now) result self.new.rest.now }
     {
-        if let [first, rest @ ..] = self.rest
-            && let Word::Text(text) = &first.word
-        {
-            let bytes = Vec::from_slice(self.alloc, text.as_slice())?;
-            let value = LitAst::Text(Seq::from_vec(bytes));
-            let at = first.at;
-            self.rest = rest;
-            Ok(LiteralAst { value, at })
-        } else {
-            self.unsigned()
-        }
+        let [first, rest @ ..] = self.rest else {
+            return Err(Stop::Unexpected);
+        };
+        let value = match &first.word {
+            Word::Text(text) => {
+                let bytes = Vec::from_slice(self.alloc, text.as_slice())?;
+                LitAst::Text(Seq::from_vec(bytes))
+            }
+            Word::Number(number) => LitAst::Int(plain(*number).ok_or(Stop::Unexpected)?),
+            _ => return Err(Stop::Unexpected),
+        };
+        let at = first.at;
+        self.rest = rest;
+        Ok(LiteralAst { value, at })
     }
 
     /// `literal = [ "-" ] number | text | NULL`
-    #[tactic(auto, unfolding(crate::specs::Readers::literal))]
+    #[tactic(auto, unfolding(crate::specs::Grammar::literal))]
     pub fn literal(&mut self) -> Result<LiteralAst, Stop>
-        ensures { Reads (spec.literal self.old.rest.now) result self.new.rest.now }
+        ensures { Reads (grammar.literal.reads self.old.rest.now) result self.new.rest.now }
     {
         if let Some(at) = self.eat_at(Mark::Sign(Sign::Minus)) {
             self.negative(at)
@@ -103,9 +119,9 @@ impl<'a> Parser<'a> {
     }
 
     /// `operand = column | literal`
-    #[tactic(auto, unfolding(crate::specs::Readers::operand_at))]
+    #[tactic(auto, unfolding(crate::specs::Grammar::operand))]
     pub fn operand(&mut self) -> Result<OperandAst, Stop>
-        ensures { Reads (spec.operand_at self.old.rest.now) result self.new.rest.now }
+        ensures { Reads (grammar.operand.reads self.old.rest.now) result self.new.rest.now }
     {
         if self.sees_name() {
             Ok(OperandAst::Column(self.column()?))
@@ -115,7 +131,7 @@ impl<'a> Parser<'a> {
     }
 
     pub fn boxed_operand(&mut self) -> Result<Boxed<OperandAst>, Stop>
-        ensures { Reads (spec.operand_at self.old.rest.now) result self.new.rest.now }
+        ensures { Reads (grammar.operand.reads self.old.rest.now) result self.new.rest.now }
     {
         let operand = self.operand()?;
         Ok(Boxed::new(self.alloc, operand)?)

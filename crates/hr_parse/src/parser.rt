@@ -89,20 +89,9 @@ impl<'a> Parser<'a> {
         if self.eat(mark) { Some(at) } else { None }
     }
 
-    /// Takes this mark, which has to come next.
-    pub fn expect(&mut self, mark: Mark) -> Result<(), Stop>
-        ensures { Reads (spec.expect mark self.old.rest.now) result self.new.rest.now }
-    {
-        if self.eat(mark) {
-            Ok(())
-        } else {
-            Err(Stop::Unexpected)
-        }
-    }
-
     /// Takes this mark, which has to come next, and gives its place.
-    pub fn expect_at(&mut self, mark: Mark) -> Result<u32, Stop>
-        ensures { Reads (spec.expect_at mark self.old.rest.now) result self.new.rest.now }
+    pub fn expect(&mut self, mark: Mark) -> Result<u32, Stop>
+        ensures { Reads (spec.expect mark self.old.rest.now) result self.new.rest.now }
     {
         let at = self.place();
         if self.eat(mark) {
@@ -128,6 +117,7 @@ impl<'a> Parser<'a> {
     }
 
     /// Takes a `=`, which has to come next.
+    #[tactic(auto, unfolding(crate::specs::Readers::expect_equal))]
     pub fn expect_equal(&mut self) -> Result<(), Stop>
         ensures { Reads (spec.expect_equal self.old.rest.now) result self.new.rest.now }
     {

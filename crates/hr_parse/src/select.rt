@@ -1,7 +1,7 @@
 //! SELECT.
 
 ghost use Rattle.std.specs.Prelude.{[]};
-ghost use Rattle.hr_parse.specs.Readers as spec;
+ghost use Rattle.hr_parse.specs.Grammar as spec;
 ghost use Rattle.hr_parse.specs.Readers.{Reads};
 
 use crate::ast::{
@@ -15,9 +15,9 @@ use hr_rel::Seq;
 
 impl<'a> Parser<'a> {
     /// The column and `)` of an aggregate that begins at `at`.
-    #[tactic(auto, unfolding(crate::specs::Readers::aggregated))]
+    #[tactic(auto, unfolding(crate::specs::Grammar::aggregated))]
     fn aggregated(&mut self, word: AggWord, at: u32) -> Result<ItemAst, Stop>
-        ensures { Reads (spec.aggregated word at self.old.rest.now) result self.new.rest.now }
+        ensures { Reads ((spec.aggregated word at).reads self.old.rest.now) result self.new.rest.now }
     {
         let column = self.column()?;
         self.expect(Mark::Sign(Sign::RightParen))?;
@@ -25,9 +25,9 @@ impl<'a> Parser<'a> {
     }
 
     /// What stands behind COUNT.
-    #[tactic(auto, unfolding(crate::specs::Readers::counted))]
+    #[tactic(auto, unfolding(crate::specs::Grammar::counted))]
     fn counted(&mut self, at: u32) -> Result<ItemAst, Stop>
-        ensures { Reads (spec.counted at self.old.rest.now) result self.new.rest.now }
+        ensures { Reads ((spec.counted at).reads self.old.rest.now) result self.new.rest.now }
     {
         self.expect(Mark::Sign(Sign::LeftParen))?;
         if self.eat(Mark::Sign(Sign::Star)) {
@@ -39,18 +39,18 @@ impl<'a> Parser<'a> {
     }
 
     /// What stands behind SUM, MIN or MAX.
-    #[tactic(auto, unfolding(crate::specs::Readers::folded))]
+    #[tactic(auto, unfolding(crate::specs::Grammar::folded))]
     fn folded(&mut self, word: AggWord, at: u32) -> Result<ItemAst, Stop>
-        ensures { Reads (spec.folded word at self.old.rest.now) result self.new.rest.now }
+        ensures { Reads ((spec.folded word at).reads self.old.rest.now) result self.new.rest.now }
     {
         self.expect(Mark::Sign(Sign::LeftParen))?;
         self.aggregated(word, at)
     }
 
     /// `item = aggregate | expr`
-    #[tactic(auto, unfolding(crate::specs::Readers::item))]
+    #[tactic(auto, unfolding(crate::specs::Grammar::item))]
     fn item(&mut self, depth: usize) -> Result<ItemAst, Stop>
-        ensures { Reads (spec.item depth self.old.rest.now) result self.new.rest.now }
+        ensures { Reads ((spec.item depth).reads self.old.rest.now) result self.new.rest.now }
     {
         if let Some(at) = self.eat_at(Mark::Keyword(Keyword::Count)) {
             self.counted(at)
@@ -66,9 +66,9 @@ impl<'a> Parser<'a> {
     }
 
     /// `items = "*" | item { "," item }`
-    #[tactic(auto, unfolding(crate::specs::Readers::items))]
+    #[tactic(auto, unfolding(crate::specs::Grammar::items))]
     fn items(&mut self, depth: usize) -> Result<Items, Stop>
-        ensures { Reads (spec.items depth self.old.rest.now) result self.new.rest.now }
+        ensures { Reads ((spec.items depth).reads self.old.rest.now) result self.new.rest.now }
     {
         if let Some(at) = self.eat_at(Mark::Sign(Sign::Star)) {
             Ok(Items::Star(at))
@@ -78,9 +78,9 @@ impl<'a> Parser<'a> {
     }
 
     /// `[ [ AS ] name ]`
-    #[tactic(auto, unfolding(crate::specs::Readers::alias))]
+    #[tactic(auto, unfolding(crate::specs::Grammar::alias))]
     fn alias(&mut self) -> Result<Option<NameAt>, Stop>
-        ensures { Reads (spec.alias self.old.rest.now) result self.new.rest.now }
+        ensures { Reads (spec.alias.reads self.old.rest.now) result self.new.rest.now }
     {
         if self.eat(Mark::Keyword(Keyword::As)) || self.sees_name() {
             Ok(Some(self.name()?))
@@ -90,9 +90,9 @@ impl<'a> Parser<'a> {
     }
 
     /// `entry = name [ [ AS ] name ]`
-    #[tactic(auto, unfolding(crate::specs::Readers::entry))]
+    #[tactic(auto, unfolding(crate::specs::Grammar::entry))]
     fn entry(&mut self) -> Result<EntryAst, Stop>
-        ensures { Reads (spec.entry self.old.rest.now) result self.new.rest.now }
+        ensures { Reads (spec.entry.reads self.old.rest.now) result self.new.rest.now }
     {
         let table = self.name()?;
         let alias = self.alias()?;
@@ -100,9 +100,9 @@ impl<'a> Parser<'a> {
     }
 
     /// `entry ON cond`
-    #[tactic(auto, unfolding(crate::specs::Readers::joined))]
+    #[tactic(auto, unfolding(crate::specs::Grammar::joined))]
     fn joined(&mut self, depth: usize) -> Result<JoinAst, Stop>
-        ensures { Reads (spec.joined depth self.old.rest.now) result self.new.rest.now }
+        ensures { Reads ((spec.joined depth).reads self.old.rest.now) result self.new.rest.now }
     {
         let entry = self.entry()?;
         self.expect(Mark::Keyword(Keyword::On))?;
@@ -111,9 +111,9 @@ impl<'a> Parser<'a> {
     }
 
     /// `[ [ INNER ] JOIN entry ON cond ]`
-    #[tactic(auto, unfolding(crate::specs::Readers::join))]
+    #[tactic(auto, unfolding(crate::specs::Grammar::join))]
     fn join(&mut self, depth: usize) -> Result<Option<JoinAst>, Stop>
-        ensures { Reads (spec.join depth self.old.rest.now) result self.new.rest.now }
+        ensures { Reads ((spec.join depth).reads self.old.rest.now) result self.new.rest.now }
     {
         if self.eat(Mark::Keyword(Keyword::Inner)) {
             self.expect(Mark::Keyword(Keyword::Join))?;
@@ -126,9 +126,9 @@ impl<'a> Parser<'a> {
     }
 
     /// `[ WHERE cond ]`
-    #[tactic(auto, unfolding(crate::specs::Readers::filter))]
+    #[tactic(auto, unfolding(crate::specs::Grammar::filter))]
     pub fn filter(&mut self, depth: usize) -> Result<Option<CondAst>, Stop>
-        ensures { Reads (spec.filter depth self.old.rest.now) result self.new.rest.now }
+        ensures { Reads ((spec.filter depth).reads self.old.rest.now) result self.new.rest.now }
     {
         if self.eat(Mark::Keyword(Keyword::Where)) {
             Ok(Some(self.cond(depth)?))
@@ -138,9 +138,9 @@ impl<'a> Parser<'a> {
     }
 
     /// `[ GROUP BY column { "," column } ]`
-    #[tactic(auto, unfolding(crate::specs::Readers::groups))]
+    #[tactic(auto, unfolding(crate::specs::Grammar::groups))]
     fn groups(&mut self, depth: usize) -> Result<Seq<ColumnAst>, Stop>
-        ensures { Reads (spec.groups depth self.old.rest.now) result self.new.rest.now }
+        ensures { Reads ((spec.groups depth).reads self.old.rest.now) result self.new.rest.now }
     {
         if self.eat(Mark::Keyword(Keyword::Group)) {
             self.expect(Mark::Keyword(Keyword::By))?;
@@ -151,9 +151,9 @@ impl<'a> Parser<'a> {
     }
 
     /// What stands behind SELECT.
-    #[tactic(auto, unfolding(crate::specs::Readers::select))]
+    #[tactic(auto, unfolding(crate::specs::Grammar::select))]
     pub fn select(&mut self, depth: usize) -> Result<SelectAst, Stop>
-        ensures { Reads (spec.select depth self.old.rest.now) result self.new.rest.now }
+        ensures { Reads ((spec.select depth).reads self.old.rest.now) result self.new.rest.now }
     {
         let items = self.items(depth)?;
         self.expect(Mark::Keyword(Keyword::From))?;
@@ -172,7 +172,7 @@ impl<'a> Parser<'a> {
 }
 
 impl Part for ItemAst {
-    ghost reader = { spec.item };
+    ghost reader = { λ n. (spec.item n).reads };
 
     fn part(parser: &mut Parser<'_>, depth: usize) -> Result<ItemAst, Stop> {
         parser.item(depth)

@@ -1,7 +1,7 @@
 //! A whole statement.
 
-ghost use Rattle.hr_parse.specs.Readers as spec;
-ghost use Rattle.hr_parse.specs.Readers.{Reads};
+ghost use Rattle.hr_parse.specs.Grammar as spec;
+ghost use Rattle.hr_parse.specs.Readers.{Reads, alone};
 
 use crate::ast::Ast;
 use crate::parser::{Parser, Stop};
@@ -10,9 +10,9 @@ use hr_lex::Keyword;
 
 impl<'a> Parser<'a> {
     /// `select | insert | update | delete`
-    #[tactic(auto, unfolding(crate::specs::Readers::command))]
+    #[tactic(auto, unfolding(crate::specs::Grammar::command))]
     fn command(&mut self, depth: usize) -> Result<Ast, Stop>
-        ensures { Reads (spec.command depth self.old.rest.now) result self.new.rest.now }
+        ensures { Reads ((spec.command depth).reads self.old.rest.now) result self.new.rest.now }
     {
         if self.eat(Mark::Keyword(Keyword::Select)) {
             Ok(Ast::Select(self.select(depth)?))
@@ -28,9 +28,9 @@ impl<'a> Parser<'a> {
     }
 
     /// `statement = ( select | insert | update | delete ) [ ";" ]`, and then the end.
-    #[tactic(auto, unfolding(crate::specs::Readers::statement, crate::specs::Readers::terminated))]
+    #[tactic(auto, unfolding(crate::specs::Grammar::statement))]
     pub fn statement(&mut self, depth: usize) -> Result<Ast, Stop>
-        ensures { Reads (spec.statement depth self.old.rest.now) result self.new.rest.now }
+        ensures { Reads (alone (spec.statement depth).reads self.old.rest.now) result self.new.rest.now }
     {
         let ast = self.command(depth)?;
         let _ended = self.eat(Mark::Sign(Sign::Semicolon));

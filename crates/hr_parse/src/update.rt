@@ -1,6 +1,6 @@
 //! UPDATE.
 
-ghost use Rattle.hr_parse.specs.Readers as spec;
+ghost use Rattle.hr_parse.specs.Grammar as spec;
 ghost use Rattle.hr_parse.specs.Readers.{Reads};
 
 use crate::ast::{SetAst, UpdateAst};
@@ -11,9 +11,9 @@ use hr_lex::Keyword;
 
 impl<'a> Parser<'a> {
     /// `name "=" expr`
-    #[tactic(auto, unfolding(crate::specs::Readers::assignment))]
+    #[tactic(auto, unfolding(crate::specs::Grammar::assignment))]
     fn assignment(&mut self, depth: usize) -> Result<SetAst, Stop>
-        ensures { Reads (spec.assignment depth self.old.rest.now) result self.new.rest.now }
+        ensures { Reads ((spec.assignment depth).reads self.old.rest.now) result self.new.rest.now }
     {
         let column = self.name()?;
         self.expect_equal()?;
@@ -22,9 +22,9 @@ impl<'a> Parser<'a> {
     }
 
     /// What stands behind UPDATE.
-    #[tactic(auto, unfolding(crate::specs::Readers::update))]
+    #[tactic(auto, unfolding(crate::specs::Grammar::update))]
     pub fn update(&mut self, depth: usize) -> Result<UpdateAst, Stop>
-        ensures { Reads (spec.update depth self.old.rest.now) result self.new.rest.now }
+        ensures { Reads ((spec.update depth).reads self.old.rest.now) result self.new.rest.now }
     {
         let table = self.name()?;
         self.expect(Mark::Keyword(Keyword::Set))?;
@@ -39,7 +39,7 @@ impl<'a> Parser<'a> {
 }
 
 impl Part for SetAst {
-    ghost reader = { spec.assignment };
+    ghost reader = { λ n. (spec.assignment n).reads };
 
     fn part(parser: &mut Parser<'_>, depth: usize) -> Result<SetAst, Stop> {
         parser.assignment(depth)

@@ -12,7 +12,7 @@ use Rattle.hr_parse.specs.declared.word.Sign.TheVariants as sg
 use Rattle.hr_parse.specs.declared.word.Word.TheVariants as w
 use Rattle.hr_parse.specs.declared.word.Lexeme.{Lexeme}
 use Rattle.hr_parse.specs.Words.{mark, same_mark}
-use Rattle.hr_parse.specs.Grammar.{Listed, IsLiteral, IsOperand, IsCheck, IsNeg}
+use Rattle.hr_parse.specs.Grammar.{IsMark, IsCompare, Gives, Seq, Map, Either, Listed, literal, operand, between, among, nullity, range_or_list, check, predicate, IsNeg}
 use Rattle.hr_print.specs.Print.{joined, literal_text, operand_text, op_text, is_text, between_text, in_text, cond_text}
 use Rattle.hr_print.specs.Places.{bare_literal, bare_operand, bare_cond}
 use Rattle.hr_print.proofs.Spelled.{Ends, says_before}
@@ -26,7 +26,7 @@ use Rattle.hr_print.proofs.PrintedParts.{before_blank, between_blanks, op_said, 
 
 -- a check, whatever its left operand is
 abbrev Behind : List Lexeme → (OperandAst → CondAst) → Type 0
-Behind us f = (l : OperandAst) → IsCheck l us (f l)
+Behind us f = (l : OperandAst) → (check 0 l).gives us (f l)
 
 -- behind a left operand that is the same apart from places, the condition is
 abbrev SameTest : OperandAst → CondAst → (OperandAst → CondAst) → Type 0
@@ -46,26 +46,29 @@ op_apart op.Le text rest = refl
 op_apart op.Gt text rest = refl
 op_apart op.Ge text rest = refl
 
-compared_again : (left : OperandAst) (o : Op) (a : OperandAst) (us : List Lexeme) (p : ℕ × OperandAst) → Both (The (w.Compare o)) IsOperand us p → (Unit {0} × Like bare_operand a p.1)
+compared_again : (left : OperandAst) (o : Op) (a : OperandAst) (us : List Lexeme) (p : ℕ × OperandAst) → Both (The (w.Compare o)) operand.gives us p → (Unit {0} × Like bare_operand a p.1)
     → (f : OperandAst → CondAst) × Behind us f × SameTest left (cond_of.Compare o left a) f
-compared_again left o a us p (Both.both (The.the q) k) h = (λ l. cond_of.Compare o l p.1, λ l. IsCheck.compared o q k, λ l e. compare_bare o l p.1 ∙ ap_two (cond_of.Compare o) e h.1 ∙ sym (compare_bare o left a))
+unfolding check nullity range_or_list between among
+compared_again left o a us p (Both.both (The.the q) k) h = (λ l. cond_of.Compare o l p.1, λ l. Either.in_left (Seq.seq (IsCompare.the o q) (Map.map k)), λ l e. compare_bare o l p.1 ∙ ap_two (cond_of.Compare o) e h.1 ∙ sym (compare_bare o left a))
 
 is_null_again : (left : OperandAst) (us : List Lexeme) (p : ℕ × ℕ) → Both (The (w.Fixed (m.Keyword kw.Is))) (The (w.Fixed (m.Keyword kw.Null))) us p → (Unit {0} × Unit {0})
     → (f : OperandAst → CondAst) × Behind us f × SameTest left (cond_of.IsNull left false) f
-is_null_again left us p (Both.both (The.the q) (The.the r)) h = (λ l. cond_of.IsNull l false, λ l. IsCheck.is_null q r, λ l e. is_null_bare l false ∙ ap (λ x. cond_of.IsNull x false) e ∙ sym (is_null_bare left false))
+unfolding check nullity range_or_list between among
+is_null_again left us p (Both.both (The.the q) (The.the r)) h = (λ l. cond_of.IsNull l false, λ l. Either.in_right (Either.in_left (Seq.seq (IsMark.the q) (Either.in_right (Seq.seq (IsMark.the r) Gives.nothing)))), λ l e. is_null_bare l false ∙ ap (λ x. cond_of.IsNull x false) e ∙ sym (is_null_bare left false))
 
 is_not_null_again : (left : OperandAst) (us : List Lexeme) (p : ℕ × (ℕ × ℕ)) → Both (The (w.Fixed (m.Keyword kw.Is))) (Both (The (w.Fixed (m.Keyword kw.Not))) (The (w.Fixed (m.Keyword kw.Null)))) us p → (Unit {0} × (Unit {0} × Unit {0}))
     → (f : OperandAst → CondAst) × Behind us f × SameTest left (cond_of.IsNull left true) f
-is_not_null_again left us p (Both.both (The.the q) (Both.both (The.the r) (The.the s))) h = (λ l. cond_of.IsNull l true, λ l. IsCheck.is_not_null q r s, λ l e. is_null_bare l true ∙ ap (λ x. cond_of.IsNull x true) e ∙ sym (is_null_bare left true))
+unfolding check nullity range_or_list between among
+is_not_null_again left us p (Both.both (The.the q) (Both.both (The.the r) (The.the s))) h = (λ l. cond_of.IsNull l true, λ l. Either.in_right (Either.in_left (Seq.seq (IsMark.the q) (Either.in_left (Seq.seq (IsMark.the r) (Seq.seq (IsMark.the s) Gives.nothing))))), λ l e. is_null_bare l true ∙ ap (λ x. cond_of.IsNull x true) e ∙ sym (is_null_bare left true))
 
 -- low AND high
 abbrev Range : List Lexeme → OperandAst × (ℕ × OperandAst) → Type 0
-Range = Both IsOperand (Both (The (w.Fixed (m.Keyword kw.And))) IsOperand)
+Range = Both operand.gives (Both (The (w.Fixed (m.Keyword kw.And))) operand.gives)
 
 abbrev SameRange : OperandAst → OperandAst → OperandAst × (ℕ × OperandAst) → Type 0
 SameRange low high p = Like bare_operand low p.0 × (Unit {0} × Like bare_operand high p.1.1)
 
-printed_range : (q : ℕ) (u v : List Lexeme) (low high : OperandAst) → IsOperand u low → IsOperand v high → Valid (u ++ (mark (m.Keyword kw.And) q ∷ v))
+printed_range : (q : ℕ) (u v : List Lexeme) (low high : OperandAst) → operand.gives u low → operand.gives v high → Valid (u ++ (mark (m.Keyword kw.And) q ∷ v))
     → Printed Ends (operand_text low ++ (codes " AND " ++ operand_text high)) Range (SameRange low high) (count (u ++ (mark (m.Keyword kw.And) q ∷ v)))
 unfolding same_mark
 printed_range q u v low high l k h =
@@ -81,13 +84,15 @@ same_between n left low high l a b e h k =
 
 between_again : (left low high : OperandAst) (us : List Lexeme) (p : ℕ × (OperandAst × (ℕ × OperandAst))) → Both (The (w.Fixed (m.Keyword kw.Between))) Range us p → (Unit {0} × SameRange low high p.1)
     → (f : OperandAst → CondAst) × Behind us f × SameTest left (cond_of.Between left low high false) f
+unfolding check nullity range_or_list between among
 between_again left low high us p (Both.both (The.the q) (Both.both l (Both.both (The.the r) k))) h =
-    (λ x. cond_of.Between x p.1.0 p.1.1.1 false, λ x. IsCheck.between q r l k, λ x e. same_between false left low high x p.1.0 p.1.1.1 e h.1.0 h.1.1.1)
+    (λ x. cond_of.Between x p.1.0 p.1.1.1 false, λ x. Either.in_right (Either.in_right (Either.in_right (Either.in_left (Seq.seq (IsMark.the q) (Seq.seq l (Seq.seq (IsMark.the r) (Map.map k))))))), λ x e. same_between false left low high x p.1.0 p.1.1.1 e h.1.0 h.1.1.1)
 
 not_between_again : (left low high : OperandAst) (us : List Lexeme) (p : ℕ × (ℕ × (OperandAst × (ℕ × OperandAst)))) → Both (The (w.Fixed (m.Keyword kw.Not))) (Both (The (w.Fixed (m.Keyword kw.Between))) Range) us p
     → (Unit {0} × (Unit {0} × SameRange low high p.1.1)) → (f : OperandAst → CondAst) × Behind us f × SameTest left (cond_of.Between left low high true) f
+unfolding check nullity range_or_list between among
 not_between_again left low high us p (Both.both (The.the o) (Both.both (The.the q) (Both.both l (Both.both (The.the r) k)))) h =
-    (λ x. cond_of.Between x p.1.1.0 p.1.1.1.1 true, λ x. IsCheck.not_between o q r l k, λ x e. same_between true left low high x p.1.1.0 p.1.1.1.1 e h.1.1.0 h.1.1.1.1)
+    (λ x. cond_of.Between x p.1.1.0 p.1.1.1.1 true, λ x. Either.in_right (Either.in_right (Either.in_left (Seq.seq (IsMark.the o) (Either.in_left (Seq.seq (IsMark.the q) (Seq.seq l (Seq.seq (IsMark.the r) (Map.map k)))))))), λ x e. same_between true left low high x p.1.1.0 p.1.1.1.1 e h.1.1.0 h.1.1.1.1)
 
 -- ( list )
 abbrev pub Enclosed : {A : Type 0} → (List Lexeme → A → Type 0) → List Lexeme → ℕ × (A × ℕ) → Type 0
@@ -100,60 +105,62 @@ printed_enclosed {t} h =
     change (pair (fixed (w.Fixed (m.Sign sg.LeftParen)) said_left) (pair h (fixed {F = Ends} (w.Fixed (m.Sign sg.RightParen)) (says_before (codes ")") _ said_right)) (λ r e. refl)) (λ r e. tt))
     (λ us p r e. (p, r, e)) (omega arith)
 
-among_again : (left : OperandAst) (list : List LiteralAst) (us : List Lexeme) (p : ℕ × (ℕ × (List LiteralAst × ℕ))) → Both (The (w.Fixed (m.Keyword kw.In))) (Enclosed (Listed IsLiteral)) us p
+among_again : (left : OperandAst) (list : List LiteralAst) (us : List Lexeme) (p : ℕ × (ℕ × (List LiteralAst × ℕ))) → Both (The (w.Fixed (m.Keyword kw.In))) (Enclosed (Listed literal.gives)) us p
     → (Unit {0} × (Unit {0} × (Like (map bare_literal) list p.1.1.0 × Unit {0}))) → (f : OperandAst → CondAst) × Behind us f × SameTest left (cond_of.Among left list false) f
+unfolding check nullity range_or_list between among
 among_again left list us p (Both.both (The.the q) (Both.both (The.the r) (Both.both l (The.the s)))) h =
-    (λ x. cond_of.Among x p.1.1.0 false, λ x. IsCheck.among q r s l, λ x e. among_bare x p.1.1.0 false ∙ ap_two (λ y z. cond_of.Among y z false) e h.1.1.0 ∙ sym (among_bare left list false))
+    (λ x. cond_of.Among x p.1.1.0 false, λ x. Either.in_right (Either.in_right (Either.in_right (Either.in_right (Seq.seq (IsMark.the q) (Seq.seq (IsMark.the r) (Seq.seq l (Seq.seq (IsMark.the s) Gives.nothing))))))), λ x e. among_bare x p.1.1.0 false ∙ ap_two (λ y z. cond_of.Among y z false) e h.1.1.0 ∙ sym (among_bare left list false))
 
-not_among_again : (left : OperandAst) (list : List LiteralAst) (us : List Lexeme) (p : ℕ × (ℕ × (ℕ × (List LiteralAst × ℕ)))) → Both (The (w.Fixed (m.Keyword kw.Not))) (Both (The (w.Fixed (m.Keyword kw.In))) (Enclosed (Listed IsLiteral))) us p
+not_among_again : (left : OperandAst) (list : List LiteralAst) (us : List Lexeme) (p : ℕ × (ℕ × (ℕ × (List LiteralAst × ℕ)))) → Both (The (w.Fixed (m.Keyword kw.Not))) (Both (The (w.Fixed (m.Keyword kw.In))) (Enclosed (Listed literal.gives))) us p
     → (Unit {0} × (Unit {0} × (Unit {0} × (Like (map bare_literal) list p.1.1.1.0 × Unit {0})))) → (f : OperandAst → CondAst) × Behind us f × SameTest left (cond_of.Among left list true) f
+unfolding check nullity range_or_list between among
 not_among_again left list us p (Both.both (The.the o) (Both.both (The.the q) (Both.both (The.the r) (Both.both l (The.the s))))) h =
-    (λ x. cond_of.Among x p.1.1.1.0 true, λ x. IsCheck.not_among o q r s l, λ x e. among_bare x p.1.1.1.0 true ∙ ap_two (λ y z. cond_of.Among y z true) e h.1.1.1.0 ∙ sym (among_bare left list true))
+    (λ x. cond_of.Among x p.1.1.1.0 true, λ x. Either.in_right (Either.in_right (Either.in_left (Seq.seq (IsMark.the o) (Either.in_right (Seq.seq (IsMark.the q) (Seq.seq (IsMark.the r) (Seq.seq l (Seq.seq (IsMark.the s) Gives.nothing)))))))), λ x e. among_bare x p.1.1.1.0 true ∙ ap_two (λ y z. cond_of.Among y z true) e h.1.1.1.0 ∙ sym (among_bare left list true))
 
-printed_check : (left : OperandAst) (u : List Lexeme) (a : CondAst) → IsCheck left u a → Valid u → Checked left a (count u)
-unfolding same_mark
-printed_check left s c (IsCheck.compared o p {u} {a} l) v = record {
+printed_check : (left : OperandAst) (u : List Lexeme) (a : CondAst) → (check 0 left).gives u a → Valid u → Checked left a (count u)
+unfolding same_mark check nullity range_or_list between among
+printed_check left s c (Either.in_left (Seq.seq (IsCompare.the o p) (Map.map {u} {a} l))) v = record {
   text = op_text o ++ operand_text a;
   same = compare_shown o left a;
   apart = λ rest h. op_apart o (operand_text a) rest;
   printed = change (pair (fixed (w.Compare o) (op_said o)) (printed_operand u a l v.1) (λ r e. tt)) (compared_again left o a) (omega arith);
 }
-printed_check left s c (IsCheck.is_null p q) v = record {
+printed_check left s c (Either.in_right (Either.in_left (Seq.seq (IsMark.the p) (Either.in_right (Seq.seq (IsMark.the q) Gives.nothing))))) v = record {
   text = is_text false;
   same = is_null_shown left false;
   apart = λ rest h. refl;
   printed = change (pair (fixed (w.Fixed (m.Keyword kw.Is)) (between_blanks (codes "IS") (w.Fixed (m.Keyword kw.Is)) said_is)) (fixed (w.Fixed (m.Keyword kw.Null)) said_null) (λ r e. tt)) (is_null_again left) (omega arith);
 }
-printed_check left s c (IsCheck.is_not_null p q r) v = record {
+printed_check left s c (Either.in_right (Either.in_left (Seq.seq (IsMark.the p) (Either.in_left (Seq.seq (IsMark.the q) (Seq.seq (IsMark.the r) Gives.nothing)))))) v = record {
   text = is_text true;
   same = is_null_shown left true;
   apart = λ rest h. refl;
   printed = change (pair (fixed (w.Fixed (m.Keyword kw.Is)) (between_blanks (codes "IS") (w.Fixed (m.Keyword kw.Is)) said_is))
       (pair (fixed (w.Fixed (m.Keyword kw.Not)) (before_blank (codes "NOT") (w.Fixed (m.Keyword kw.Not)) said_not)) (fixed (w.Fixed (m.Keyword kw.Null)) said_null) (λ r e. tt)) (λ r e. tt)) (is_not_null_again left) (omega arith);
 }
-printed_check left s c (IsCheck.between p q {u} {v} {a} {b} l k) h = record {
+printed_check left s c (Either.in_right (Either.in_right (Either.in_right (Either.in_left (Seq.seq (IsMark.the p) (Seq.seq {u} {a} l (Seq.seq (IsMark.the q) (Map.map {u = v} {a = b} k)))))))) h = record {
   text = between_text false ++ (operand_text a ++ (codes " AND " ++ operand_text b));
   same = between_shown left a b false;
   apart = λ rest h. refl;
   printed = change (pair (fixed (w.Fixed (m.Keyword kw.Between)) (between_blanks (codes "BETWEEN") (w.Fixed (m.Keyword kw.Between)) said_between)) (printed_range q u v a b l k h.1) (λ r e. tt)) (between_again left a b) (omega arith);
 }
-printed_check left s c (IsCheck.not_between o p q {u} {v} {a} {b} l k) h = record {
+printed_check left s c (Either.in_right (Either.in_right (Either.in_left (Seq.seq (IsMark.the o) (Either.in_left (Seq.seq (IsMark.the p) (Seq.seq {u} {a} l (Seq.seq (IsMark.the q) (Map.map {u = v} {a = b} k))))))))) h = record {
   text = between_text true ++ (operand_text a ++ (codes " AND " ++ operand_text b));
   same = between_shown left a b true;
   apart = λ rest h. refl;
   printed = change (pair (fixed (w.Fixed (m.Keyword kw.Not)) (between_blanks (codes "NOT") (w.Fixed (m.Keyword kw.Not)) said_not))
       (pair (fixed (w.Fixed (m.Keyword kw.Between)) (before_blank (codes "BETWEEN") (w.Fixed (m.Keyword kw.Between)) said_between)) (printed_range q u v a b l k h.1.1) (λ r e. tt)) (λ r e. tt)) (not_between_again left a b) (omega arith);
 }
-printed_check left s c (IsCheck.among p q r {u} {all} l) h =
+printed_check left s c (Either.in_right (Either.in_right (Either.in_right (Either.in_right (Seq.seq (IsMark.the p) (Seq.seq (IsMark.the q) (Seq.seq {u} {a = all} l (Seq.seq (IsMark.the r) Gives.nothing)))))))) h =
     let n : count (u ++ (mark (m.Sign sg.RightParen) r ∷ [])) ≡ count u + 0 = count_both u (mark (m.Sign sg.RightParen) r ∷ []) in
     record {
       text = in_text false ++ (joined (map literal_text all) ++ codes ")");
       same = among_shown left all false;
       apart = λ rest h. refl;
       printed = change (pair (fixed (w.Fixed (m.Keyword kw.In)) (between_blanks (codes "IN") (w.Fixed (m.Keyword kw.In)) said_in))
-          (printed_enclosed (printed_list IsLiteral bare_literal literal_text printed_literal u all l (valid_left u (mark (m.Sign sg.RightParen) r ∷ []) h.1.1))) (λ r e. tt)) (among_again left all) (omega (arith, n));
+          (printed_enclosed (printed_list literal.gives bare_literal literal_text printed_literal u all l (valid_left u (mark (m.Sign sg.RightParen) r ∷ []) h.1.1))) (λ r e. tt)) (among_again left all) (omega (arith, n));
     }
-printed_check left s c (IsCheck.not_among o p q r {u} {all} l) h =
+printed_check left s c (Either.in_right (Either.in_right (Either.in_left (Seq.seq (IsMark.the o) (Either.in_right (Seq.seq (IsMark.the p) (Seq.seq (IsMark.the q) (Seq.seq {u} {a = all} l (Seq.seq (IsMark.the r) Gives.nothing))))))))) h =
     let n : count (u ++ (mark (m.Sign sg.RightParen) r ∷ [])) ≡ count u + 0 = count_both u (mark (m.Sign sg.RightParen) r ∷ []) in
     record {
       text = in_text true ++ (joined (map literal_text all) ++ codes ")");
@@ -161,19 +168,20 @@ printed_check left s c (IsCheck.not_among o p q r {u} {all} l) h =
       apart = λ rest h. refl;
       printed = change (pair (fixed (w.Fixed (m.Keyword kw.Not)) (between_blanks (codes "NOT") (w.Fixed (m.Keyword kw.Not)) said_not))
           (pair (fixed (w.Fixed (m.Keyword kw.In)) (before_blank (codes "IN") (w.Fixed (m.Keyword kw.In)) said_in))
-          (printed_enclosed (printed_list IsLiteral bare_literal literal_text printed_literal u all l (valid_left u (mark (m.Sign sg.RightParen) r ∷ []) h.1.1.1))) (λ r e. tt)) (λ r e. tt)) (not_among_again left all) (omega (arith, n));
+          (printed_enclosed (printed_list literal.gives bare_literal literal_text printed_literal u all l (valid_left u (mark (m.Sign sg.RightParen) r ∷ []) h.1.1.1))) (λ r e. tt)) (λ r e. tt)) (not_among_again left all) (omega (arith, n));
     }
 
-test_again : (left : OperandAst) (a : CondAst) (us : List Lexeme) (p : OperandAst × (OperandAst → CondAst)) → Both IsOperand Behind us p → (Like bare_operand left p.0 × SameTest left a p.1)
+test_again : (left : OperandAst) (a : CondAst) (us : List Lexeme) (p : OperandAst × (OperandAst → CondAst)) → Both operand.gives Behind us p → (Like bare_operand left p.0 × SameTest left a p.1)
     → (b : CondAst) × IsNeg us b × Like bare_cond a b
-test_again left a us p (Both.both l k) h = (p.1 p.0, IsNeg.test l (k p.0), h.1 p.0 h.0)
+unfolding predicate
+test_again left a us p (Both.both l k) h = (p.1 p.0, IsNeg.test (Seq.seq l (k p.0)), h.1 p.0 h.0)
 
 -- a test has one text, however tightly its place binds
 pub record Tested (a : CondAst) (n : ℕ) : Type 0 where
   pub same : (least : ℕ) → cond_text a least ≡ cond_text a 2
   pub printed : Printed Ends (cond_text a 2) IsNeg (Like bare_cond a) n
 
-pub printed_test : (u v : List Lexeme) (left : OperandAst) (a : CondAst) → IsOperand u left → IsCheck left v a → Valid (u ++ v) → Tested a (count (u ++ v))
+pub printed_test : (u v : List Lexeme) (left : OperandAst) (a : CondAst) → operand.gives u left → (check 0 left).gives v a → Valid (u ++ v) → Tested a (count (u ++ v))
 printed_test u v left a l k h =
     let c = printed_check left v a k (valid_right u v h) in
     let all : count (u ++ v) ≡ count u + count v = count_both u v in

@@ -9,7 +9,7 @@ use Rattle.hr_parse.specs.declared.word.Sign.TheVariants as sg
 use Rattle.hr_parse.specs.declared.word.Word.TheVariants as w
 use Rattle.hr_parse.specs.declared.word.Lexeme.{Lexeme}
 use Rattle.hr_parse.specs.Words.{mark, same_mark}
-use Rattle.hr_parse.specs.Grammar.{IsNeg, IsConj, AndMore, IsCond, OrMore}
+use Rattle.hr_parse.specs.Grammar.{Seq, predicate, IsNeg, IsConj, AndMore, IsCond, OrMore}
 use Rattle.hr_print.specs.Print.{cond_text}
 use Rattle.hr_print.specs.Places.{bare_cond}
 use Rattle.hr_print.proofs.Spelled.{Ends}
@@ -136,7 +136,7 @@ or_conds a b n k p q =
 -- ---- conditions of the grammar
 
 mutual
-  unfolding same_mark
+  unfolding same_mark predicate
 
   neg_printed : (u : List Lexeme) (a : CondAst) → IsNeg u a → Valid u → Conds a (count u) (count u) (count u)
   neg_printed s b (IsNeg.negation p {u} {a} l) h = not_conds a (count u) (count u) (count u) (neg_printed u a l h.1)
@@ -145,7 +145,7 @@ mutual
       let n : count (u ++ (mark (m.Sign sg.RightParen) q ∷ [])) ≡ count u + 0 = count_both u (mark (m.Sign sg.RightParen) q ∷ []) in
       let all : ℕ = suc (count (u ++ (mark (m.Sign sg.RightParen) q ∷ []))) in
       weaker all all all c (omega (arith, n)) (omega (arith, n)) (omega (arith, n))
-  neg_printed s b (IsNeg.test {u} {v} {left} {a} l k) h = let t = printed_test u v left a l k h in all_tight a (count (u ++ v)) t.same t.printed
+  neg_printed s b (IsNeg.test {a} (Seq.seq {u} {v} {a = left} l k)) h = let t = printed_test u v left a l k h in all_tight a (count (u ++ v)) t.same t.printed
 
   conj_printed : (u : List Lexeme) (a : CondAst) → IsConj u a → Valid u → Conds a (count u) (count u) (suc (count u))
   conj_printed s c (IsConj.conj {u} {v} {a} {b} l k) h =

@@ -12,7 +12,7 @@ use Rattle.hr_parse.specs.declared.word.Word.TheVariants as w
 use Rattle.hr_parse.specs.declared.word.Lexeme.{Lexeme}
 use Rattle.hr_parse.specs.Words.{mark, same_mark}
 use Rattle.hr_parse.specs.Trees.{expr, sum, difference, product, placed, simple}
-use Rattle.hr_parse.specs.Grammar.{IsOperand, IsFactor, IsTerm, TimesMore, IsExpr, PlusMore}
+use Rattle.hr_parse.specs.Grammar.{operand, IsFactor, IsTerm, TimesMore, IsExpr, PlusMore}
 use Rattle.hr_print.specs.Print.{operand_text, expr_text}
 use Rattle.hr_print.specs.Places.{bare_literal, bare_column, bare_operand, bare_expr}
 use Rattle.hr_print.proofs.Spelled.{Ends, says_before}
@@ -97,10 +97,10 @@ simple_shown : (a : OperandAst) (least : ℕ) → expr_text (simple a) least ≡
 simple_shown (operand_of.Column a) least = column_shown a a.first.at least
 simple_shown (operand_of.Literal a) least = literal_shown a a.at least
 
-operand_factor : (u : List Lexeme) (a : OperandAst) → IsOperand u a → Valid u → Printed Ends (operand_text a) IsFactor (Like bare_expr (simple a)) (count u)
-operand_factor u a l h = change (printed_operand u a l h) (λ us b k e. (simple b, IsFactor.operand k, simple_bare a b e)) (omega arith)
+operand_factor : (u : List Lexeme) (a : OperandAst) → operand.gives u a → Valid u → Printed Ends (operand_text a) IsFactor (Like bare_expr (simple a)) (count u)
+operand_factor u a l h = change (printed_operand u a l h) (λ us b k e. (simple b, IsFactor.plain b k, simple_bare a b e)) (omega arith)
 
-operand_exprs : (u : List Lexeme) (a : OperandAst) → IsOperand u a → Valid u → Exprs (simple a) (count u) (count u) (count u)
+operand_exprs : (u : List Lexeme) (a : OperandAst) → operand.gives u a → Valid u → Exprs (simple a) (count u) (count u) (count u)
 operand_exprs u a l h =
     let p = operand_factor u a l h in
     let c : ExprAst = simple a in
@@ -187,7 +187,7 @@ mutual
   unfolding same_mark
 
   factor_printed : (u : List Lexeme) (a : ExprAst) → IsFactor u a → Valid u → Exprs a (count u) (count u) (count u)
-  factor_printed s b (IsFactor.operand {u} {a} l) h = operand_exprs u a l h
+  factor_printed s b (IsFactor.plain a {u} l) h = operand_exprs u a l h
   factor_printed s b (IsFactor.parens p q {u} {a} l) h =
       let c = placed_exprs a p (count u) (suc (count u)) (suc (count u)) (expr_printed u a l (valid_left u (mark (m.Sign sg.RightParen) q ∷ []) h.1)) in
       let n : count (u ++ (mark (m.Sign sg.RightParen) q ∷ [])) ≡ count u + 0 = count_both u (mark (m.Sign sg.RightParen) q ∷ []) in

@@ -20,7 +20,7 @@ use Rattle.hr_parse.specs.declared.word.Word.TheVariants as w
 use Rattle.hr_parse.specs.declared.word.Lexeme.{Lexeme}
 use Rattle.hr_parse.specs.Words.{mark, same_mark}
 use Rattle.hr_parse.specs.Trees.{minus}
-use Rattle.hr_parse.specs.Grammar.{Optional, Listed, IsName, IsColumn, IsLiteral, IsOperand}
+use Rattle.hr_parse.specs.Grammar.{Language, IsMark, Gives, Seq, Map, Either, Listed, IsName, IsNegative, IsConstant, column, literal, operand}
 use Rattle.hr_print.specs.Print.{more, joined, dotted, column_text, literal_text, operand_text, name_text, op_text}
 use Rattle.hr_print.specs.Places.{bare_name, bare_column, bare_literal, bare_operand}
 use Rattle.hr_print.proofs.Spelled.{Says, Any, Ends, says_both, says_before}
@@ -54,70 +54,81 @@ op_said op.Ge = between_blanks (codes ">=") (w.Compare op.Ge) (says_before (code
 
 name_again : (n : List ℕ) (p : ℕ) (us : List Lexeme) (q : ℕ) → The (w.Name n) us q → Unit {0}
     → (b : NameAt) × IsName us b × Like bare_name (record { name = n; at = p }) b
-name_again n p us q (The.the r) h = (record { name = n; at = r }, IsName.name n r, refl)
+name_again n p us q (The.the r) h = (record { name = n; at = r }, IsName.the_name n r, refl)
 
 pub printed_name : (u : List Lexeme) (a : NameAt) → IsName u a → Valid u → Printed Ends (name_text a) IsName (Like bare_name a) (count u)
-printed_name u a (IsName.name n p) v = change (fixed (w.Name n) (said_name n v.0)) (name_again n p) (omega arith)
+printed_name u a (IsName.the_name n p) v = change (fixed (w.Name n) (said_name n v.0)) (name_again n p) (omega arith)
+
+-- [ k L ]
+abbrev pub Optional : {A : Type 0} → Mark → Language A → Language (Option A)
+Optional k L = Either (Seq (IsMark k) (λ _. Map Some L)) (Gives None)
 
 -- behind a mark that must come, there is the part
 pub some_again : {A : Type 0} (k : Mark) (L : List Lexeme → A → Type 0) (f : A → A) (a : A) (us : List Lexeme) (p : ℕ × A) → Both (The (w.Fixed k)) L us p → (Unit {0} × Like f a p.1)
     → (b : Option A) × Optional k L us b × Like (option_map f) (Some a) b
-some_again k L f a us p (Both.both (The.the q) l) h = (Some p.1, Optional.some q l, ap Some h.1)
+some_again k L f a us p (Both.both (The.the q) l) h = (Some p.1, Either.in_left (Seq.seq (IsMark.the q) (Map.map l)), ap Some h.1)
 
 printed_dotted : (u : List Lexeme) (a : Option NameAt) → Optional (m.Sign sg.Dot) IsName u a → Valid u → Printed Ends (dotted a) (Optional (m.Sign sg.Dot) IsName) (Like (option_map bare_name) a) (count u)
 unfolding same_mark
-printed_dotted s c Optional.none v = nothing 0 None Optional.none refl
-printed_dotted s c (Optional.some p {u} {a} l) v = change (pair (fixed (w.Fixed (m.Sign sg.Dot)) said_dot) (printed_name u a l v.1) (λ rest h. tt)) (some_again (m.Sign sg.Dot) IsName bare_name a) (omega arith)
+printed_dotted s c (Either.in_right Gives.nothing) v = nothing 0 None (Either.in_right Gives.nothing) refl
+printed_dotted s c (Either.in_left (Seq.seq (IsMark.the p) (Map.map {u} {a} l))) v = change (pair (fixed (w.Fixed (m.Sign sg.Dot)) said_dot) (printed_name u a l v.1) (λ rest h. tt)) (some_again (m.Sign sg.Dot) IsName bare_name a) (omega arith)
 
 dotted_apart : (a : Option NameAt) (rest : List ℕ) → Ends rest → Ends (dotted a ++ rest)
 dotted_apart None rest h = h
 dotted_apart (Some a) rest h = refl
 
 column_again : (a : NameAt) (b : Option NameAt) (us : List Lexeme) (p : NameAt × Option NameAt) → Both IsName (Optional (m.Sign sg.Dot) IsName) us p → (Like bare_name a p.0 × Like (option_map bare_name) b p.1)
-    → (c : ColumnAst) × IsColumn us c × Like bare_column (record { first = a; second = b }) c
-column_again a b us p (Both.both l k) h = (record { first = p.0; second = p.1 }, IsColumn.column l k, ap_two (λ (x : NameAt) (y : Option NameAt). record { first = x; second = y }) h.0 h.1)
+    → (c : ColumnAst) × column.gives us c × Like bare_column (record { first = a; second = b }) c
+unfolding column
+column_again a b us p (Both.both l k) h = (record { first = p.0; second = p.1 }, Seq.seq l (Map.map k), ap_two (λ (x : NameAt) (y : Option NameAt). record { first = x; second = y }) h.0 h.1)
 
-pub printed_column : (u : List Lexeme) (a : ColumnAst) → IsColumn u a → Valid u → Printed Ends (column_text a) IsColumn (Like bare_column a) (count u)
-printed_column s c (IsColumn.column {u} {v} {a} {b} l k) h =
+pub printed_column : (u : List Lexeme) (a : ColumnAst) → column.gives u a → Valid u → Printed Ends (column_text a) column.gives (Like bare_column a) (count u)
+unfolding column
+printed_column s c (Seq.seq {u} {v} {a} l (Map.map {a = b} k)) h =
     let all : count (u ++ v) ≡ count u + count v = count_both u v in
     change (pair (printed_name u a l (valid_left u v h)) (printed_dotted v b k (valid_right u v h)) (dotted_apart b)) (column_again a b) (omega (arith, all))
 
 -- ---- literals and operands
 
 positive_again : (n p : ℕ) → n < 2 ^ 63 → (us : List Lexeme) (q : ℕ) → The (w.Number n) us q → Unit {0}
-    → (b : LiteralAst) × IsLiteral us b × Like bare_literal (record { value = lit.Int (pos n); at = p }) b
-positive_again n p h us q (The.the r) e = (record { value = lit.Int (pos n); at = r }, IsLiteral.positive n r h, refl)
+    → (b : LiteralAst) × literal.gives us b × Like bare_literal (record { value = lit.Int (pos n); at = p }) b
+unfolding literal
+positive_again n p h us q (The.the r) e = (record { value = lit.Int (pos n); at = r }, Either.in_right (Either.in_right (IsConstant.unsigned n r h)), refl)
 
-printed_positive : (n p : ℕ) → n < 2 ^ 63 → (k : ℕ) → Printed Ends (signed_decimal (pos n)) IsLiteral (Like bare_literal (record { value = lit.Int (pos n); at = p })) k
+printed_positive : (n p : ℕ) → n < 2 ^ 63 → (k : ℕ) → Printed Ends (signed_decimal (pos n)) literal.gives (Like bare_literal (record { value = lit.Int (pos n); at = p })) k
 printed_positive n p h k = change (fixed (w.Number n) (said_number n (omega (arith, h)))) (positive_again n p h) (omega arith)
 
 negative_again : (n p : ℕ) → n ≤ 2 ^ 63 → (us : List Lexeme) (q : ℕ × ℕ) → Both (The (w.Fixed (m.Sign sg.Minus))) (The (w.Number n)) us q → Unit {0} × Unit {0}
-    → (b : LiteralAst) × IsLiteral us b × Like bare_literal (record { value = lit.Int (minus n); at = p }) b
-negative_again n p h us q (Both.both (The.the r) (The.the s)) e = (record { value = lit.Int (minus n); at = r }, IsLiteral.negative n r s h, refl)
+    → (b : LiteralAst) × literal.gives us b × Like bare_literal (record { value = lit.Int (minus n); at = p }) b
+unfolding literal
+negative_again n p h us q (Both.both (The.the r) (The.the s)) e = (record { value = lit.Int (minus n); at = r }, Either.in_left (Seq.seq (IsMark.the r) (IsNegative.signed n s h)), refl)
 
-printed_negative : (n p : ℕ) → n ≤ 2 ^ 63 → (k : ℕ) → Printed Ends (signed_decimal (minus n)) IsLiteral (Like bare_literal (record { value = lit.Int (minus n); at = p })) k
+printed_negative : (n p : ℕ) → n ≤ 2 ^ 63 → (k : ℕ) → Printed Ends (signed_decimal (minus n)) literal.gives (Like bare_literal (record { value = lit.Int (minus n); at = p })) k
 unfolding same_mark
 printed_negative zero p h k = printed_positive zero p (omega arith) k
 printed_negative (suc n) p h k = change (pair (fixed (w.Fixed (m.Sign sg.Minus)) said_minus) (fixed (w.Number (suc n)) (said_number (suc n) h)) (λ rest e. tt)) (negative_again (suc n) p h) (omega arith)
 
-quoted_again : (t : List ℕ) (p : ℕ) (us : List Lexeme) (q : ℕ) → The (w.Text t) us q → Unit {0} → (b : LiteralAst) × IsLiteral us b × Like bare_literal (record { value = lit.Text t; at = p }) b
-quoted_again t p us q (The.the r) e = (record { value = lit.Text t; at = r }, IsLiteral.quoted t r, refl)
+quoted_again : (t : List ℕ) (p : ℕ) (us : List Lexeme) (q : ℕ) → The (w.Text t) us q → Unit {0} → (b : LiteralAst) × literal.gives us b × Like bare_literal (record { value = lit.Text t; at = p }) b
+unfolding literal
+quoted_again t p us q (The.the r) e = (record { value = lit.Text t; at = r }, Either.in_right (Either.in_right (IsConstant.quoted t r)), refl)
 
-null_again : (p : ℕ) (us : List Lexeme) (q : ℕ) → The (w.Fixed (m.Keyword kw.Null)) us q → Unit {0} → (b : LiteralAst) × IsLiteral us b × Like bare_literal (record { value = lit.Null; at = p }) b
-null_again p us q (The.the r) e = (record { value = lit.Null; at = r }, IsLiteral.null r, refl)
+null_again : (p : ℕ) (us : List Lexeme) (q : ℕ) → The (w.Fixed (m.Keyword kw.Null)) us q → Unit {0} → (b : LiteralAst) × literal.gives us b × Like bare_literal (record { value = lit.Null; at = p }) b
+unfolding literal
+null_again p us q (The.the r) e = (record { value = lit.Null; at = r }, Either.in_right (Either.in_left (Seq.seq (IsMark.the r) Gives.nothing)), refl)
 
-pub printed_literal : (u : List Lexeme) (a : LiteralAst) → IsLiteral u a → Valid u → Printed Ends (literal_text a) IsLiteral (Like bare_literal a) (count u)
-unfolding same_mark
-printed_literal u a (IsLiteral.positive n p h) v = printed_positive n p h _
-printed_literal u a (IsLiteral.negative n p q h) v = printed_negative n p h _
-printed_literal u a (IsLiteral.quoted t p) v = change (fixed (w.Text t) (said_text t v.0)) (quoted_again t p) (omega arith)
-printed_literal u a (IsLiteral.null p) v = change (fixed (w.Fixed (m.Keyword kw.Null)) said_null) (null_again p) (omega arith)
+pub printed_literal : (u : List Lexeme) (a : LiteralAst) → literal.gives u a → Valid u → Printed Ends (literal_text a) literal.gives (Like bare_literal a) (count u)
+unfolding same_mark literal
+printed_literal u a (Either.in_right (Either.in_right (IsConstant.unsigned n p h))) v = printed_positive n p h _
+printed_literal u a (Either.in_left (Seq.seq (IsMark.the p) (IsNegative.signed n q h))) v = printed_negative n p h _
+printed_literal u a (Either.in_right (Either.in_right (IsConstant.quoted t p))) v = change (fixed (w.Text t) (said_text t v.0)) (quoted_again t p) (omega arith)
+printed_literal u a (Either.in_right (Either.in_left (Seq.seq (IsMark.the p) Gives.nothing))) v = change (fixed (w.Fixed (m.Keyword kw.Null)) said_null) (null_again p) (omega arith)
 
-pub printed_operand : (u : List Lexeme) (a : OperandAst) → IsOperand u a → Valid u → Printed Ends (operand_text a) IsOperand (Like bare_operand a) (count u)
-printed_operand s c (IsOperand.column {u} {a} l) v =
-    change (printed_column u a l v) (λ us b k e. (operand_of.Column b, IsOperand.column k, ap operand_of.Column e)) (omega arith)
-printed_operand s c (IsOperand.literal {u} {a} l) v =
-    change (printed_literal u a l v) (λ us b k e. (operand_of.Literal b, IsOperand.literal k, ap operand_of.Literal e)) (omega arith)
+pub printed_operand : (u : List Lexeme) (a : OperandAst) → operand.gives u a → Valid u → Printed Ends (operand_text a) operand.gives (Like bare_operand a) (count u)
+unfolding operand
+printed_operand s c (Either.in_left (Map.map {u} {a} l)) v =
+    change (printed_column u a l v) (λ us b k e. (operand_of.Column b, Either.in_left (Map.map k), ap operand_of.Column e)) (omega arith)
+printed_operand s c (Either.in_right (Map.map {u} {a} l)) v =
+    change (printed_literal u a l v) (λ us b k e. (operand_of.Literal b, Either.in_right (Map.map k), ap operand_of.Literal e)) (omega arith)
 
 -- ---- lists
 

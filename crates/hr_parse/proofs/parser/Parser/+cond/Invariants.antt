@@ -1,5 +1,5 @@
 use Rattle.std.proofs.Common.{◌≡◌, ◌<◌, suc}
-use Rattle.hr_parse.specs.Readers.{conj_behind, cond_behind}
+use Rattle.hr_parse.specs.Grammar.{conj_behind, cond_behind}
 use Rattle.hr_parse.proofs.parser.Parser.+cond.Given as goal
 
 abbrev pub decreases-boxed_cond : goal.decreases-boxed_cond

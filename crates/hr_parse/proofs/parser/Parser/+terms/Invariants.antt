@@ -1,5 +1,5 @@
 use Rattle.std.proofs.Common.{◌≡◌, ◌<◌, suc}
-use Rattle.hr_parse.specs.Readers.{term_behind, expr_behind}
+use Rattle.hr_parse.specs.Grammar.{term_behind, expr_behind}
 use Rattle.hr_parse.proofs.parser.Parser.+terms.Given as goal
 
 abbrev pub decreases-boxed_expr : goal.decreases-boxed_expr
