@@ -1,4 +1,4 @@
--- What holds of the fields of every `View`.
+-- Not to be believed: what holds of the fields of every `View`, of which its proofs speak.
 use Rattle.std.specs.Prelude.{◌≡◌, ℕ, ◌+◌, ◌<◌, ◌≤◌, Bool, true, false, ◌||◌, ◌==◌, Option, Some, List, [], ◌∷◌, filter, length, slice_get, take_while, IsTrue}
 use Rattle.std.specs.Prelude.{vec_len, vec_capacity}
 use Rattle.hr_base.specs.Lists.{is_empty, one_to}

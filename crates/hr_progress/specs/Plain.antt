@@ -1,4 +1,4 @@
--- The fields of a `View` without where they lie in memory: what its proofs speak of.
+-- Not to be believed: the fields of a `View` without where they lie in memory, of which its proofs speak.
 use Rattle.std.specs.Prelude.{ℕ, ◌+◌, Bool, true, false, ◌&&◌, ◌==◌, if◌then◌else◌, Option, None, List, [], ◌∷◌, map, nat_eq, slice_get, unwrap_or}
 use Rattle.std.specs.Map.{lookup}
 use Rattle.hr_base.specs.Counters.{shown}
