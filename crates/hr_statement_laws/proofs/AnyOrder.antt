@@ -32,8 +32,9 @@ use Rattle.hr_meaning.specs.Exec.{exec, meaning, failed}
 use Rattle.hr_meaning.specs.Exec as run
 use Rattle.hr_meaning.specs.SameAnswer.{SameAnswer}
 use Rattle.hr_meaning.proofs.Folds.{value_lit, value_col, value_add, value_sub, value_mul}
+use Rattle.hr_statement_laws.specs.Groups.{is_of_group, shows_groups}
 use Rattle.hr_statement_laws.proofs.Groups.{StartsIn, groups_alike, members_permuted, members_start}
-use Rattle.hr_statement_laws.proofs.Items.{shows_group, row_alike, all_show}
+use Rattle.hr_statement_laws.proofs.Items.{row_alike, all_show}
 
 -- ---- rows fail by Overflow alone
 
@@ -191,7 +192,7 @@ module _ (items : List Item) (kept others : List Tuple) (same : IsPermutation ke
   abbrev one_row : Result (List Value) RunError → Answer
   one_row r = cond (nat_lt MAX_ROWS 1) (Failed TooManyRows) (shown (and_then r (λ row. Ok (row ∷ []))))
 
-  alone_alike : list_all (shows_group []) items ≡ true → few (group_row items) (kept ∷ []) ≡ few (group_row items) (others ∷ [])
+  alone_alike : list_all (is_of_group []) items ≡ true → few (group_row items) (kept ∷ []) ≡ few (group_row items) (others ∷ [])
   alone_alike fit =
       ap one_row (row_alike [] [] kept others same (in_no_group kept) (in_no_group others) items fit)
     where
@@ -199,7 +200,7 @@ module _ (items : List Item) (kept others : List Tuple) (same : IsPermutation ke
       in_no_group [] = tt
       in_no_group (t ∷ ts) = refl
 
-  each_group_alike : (groups : List ColRef) → list_all (shows_group groups) items ≡ true → few (group_row items) (groups_of groups kept) ≡ few (group_row items) (groups_of groups others)
+  each_group_alike : (groups : List ColRef) → list_all (is_of_group groups) items ≡ true → few (group_row items) (groups_of groups kept) ≡ few (group_row items) (groups_of groups others)
   each_group_alike groups fit =
       let rows = λ (g : List Value). row_alike groups g (members groups kept g) (members groups others g) (members_permuted groups g kept others same) (members_start groups g kept) (members_start groups g others) items fit in
       few_alike items (members groups kept) (members groups others) rows (ascending (map (group_of groups) kept))
@@ -209,16 +210,15 @@ module _ (items : List Item) (kept others : List Tuple) (same : IsPermutation ke
   abbrev grouped_answer : List ColRef → List Tuple → Answer
   grouped_answer groups ts = cond (not (is_empty groups)) (few (group_row items) (groups_of groups ts)) (few (group_row items) (ts ∷ []))
 
-  grouped_alike : (groups : List ColRef) → list_all (shows_group groups) items ≡ true → grouped_answer groups kept ≡ grouped_answer groups others
+  grouped_alike : (groups : List ColRef) → list_all (is_of_group groups) items ≡ true → grouped_answer groups kept ≡ grouped_answer groups others
   grouped_alike [] fit = alone_alike fit
   grouped_alike (c ∷ groups) fit = each_group_alike (c ∷ groups) fit
 
-pub grouped_in_any_order : (entries : Entries) (s : SelectStmt) (kept others : List Tuple) → is_grouped s ≡ true → items_fit entries s ≡ true → IsPermutation kept others → answer_from s kept ≡ answer_from s others
-grouped_in_any_order entries s kept others grouped fit same =
-    let each_fits : list_all (item_fits entries s) s.items ≡ true = (and_parts (not (is_empty s.items) && nat_le (length s.items) MAX_ITEMS) (list_all (item_fits entries s) s.items) fit).1 in
+pub grouped_in_any_order : (s : SelectStmt) (kept others : List Tuple) → is_grouped s ≡ true → shows_groups s ≡ true → IsPermutation kept others → answer_from s kept ≡ answer_from s others
+grouped_in_any_order s kept others grouped shows same =
     let as_groups : (ts : List Tuple) → answer_from s ts ≡ grouped_answer s.items kept others same s.groups ts = λ ts.
     (λ i. cond (not (is_empty s.groups)) (few (group_row s.items) (groups_of s.groups ts)) (cond (grouped i) (few (group_row s.items) (ts ∷ [])) (few (plain_row s.items) ts))) in
-    as_groups kept ∙ grouped_alike s.items kept others same s.groups (all_show entries s grouped s.items each_fits) ∙ sym (as_groups others)
+    as_groups kept ∙ grouped_alike s.items kept others same s.groups shows ∙ sym (as_groups others)
 
 -- ---- every SELECT that fits
 
@@ -231,7 +231,10 @@ pub fitting_in_any_order : (entries : Entries) (s : SelectStmt) (kept others : L
 fitting_in_any_order entries s kept others fit same = by_groups (is_grouped s) refl
   where
     by_groups : (b : Bool) → is_grouped s ≡ b → SameAnswer (answer_from s kept) (answer_from s others)
-    by_groups true e = subst (λ (a : Answer). SameAnswer (answer_from s kept) a) (grouped_in_any_order entries s kept others e fit same) (same_itself (answer_from s kept))
+    by_groups true e =
+        let each_fits = (and_parts (not (is_empty s.items) && nat_le (length s.items) MAX_ITEMS) (list_all (item_fits entries s) s.items) fit).1 in
+        let alike = grouped_in_any_order s kept others e (all_show entries s e s.items each_fits) same in
+        subst (λ (a : Answer). SameAnswer (answer_from s kept) a) alike (same_itself (answer_from s kept))
     by_groups false e = plain_in_any_order s kept others e same
 
 pub exec_in_any_order : (db : Database) (s : SelectStmt) (others : List Tuple) → fits db.catalog (stmt.Select s) ≡ true → IsPermutation (run.kept db s) others → SameAnswer (exec db (stmt.Select s)).answer (answer_from s others)

@@ -18,6 +18,7 @@ use Rattle.hr_meaning.specs.Truth.{Tuple, column_value}
 use Rattle.hr_meaning.specs.Value.{and_then, value_of}
 use Rattle.hr_meaning.specs.Select.{values_of, first_value, item_value, group_of, group_row}
 use Rattle.hr_meaning.proofs.Folds.{value_col}
+use Rattle.hr_statement_laws.specs.Groups.{is_of_group}
 use Rattle.hr_statement_laws.proofs.Aggregates.{values_permuted, sum_in_any_order, least_in_any_order, greatest_in_any_order}
 use Rattle.hr_statement_laws.proofs.Groups.{StartsIn}
 
@@ -53,15 +54,6 @@ module _ (t u : Tuple) (c : ColRef) where
       (λ other. same_in_group groups other (ap other_items same))
 
 module _ (groups : List ColRef) where
-  -- an item that is an aggregate, or a column of GROUP BY
-  abbrev pub shows_group : Item → Bool
-  shows_group (item.Plain e) = is_group groups (column_in e)
-  shows_group item.CountAll = true
-  shows_group (item.Count c) = true
-  shows_group (item.Sum c) = true
-  shows_group (item.Min c) = true
-  shows_group (item.Max c) = true
-
   value_alike : (e : expr.Expr) (t u : Tuple) → is_group groups (column_in e) ≡ true → group_of groups t ≡ group_of groups u → value_of e t ≡ value_of e u
   value_alike (expr.Col c) t u shown same = value_col t c ∙ ap Ok (same_in_group t u c groups shown same) ∙ sym (value_col u c)
   value_alike _ t u shown same = cc
@@ -73,7 +65,7 @@ module _ (groups : List ColRef) where
     first_alike e shown (t ∷ ts) [] size h k = cc
     first_alike e shown (t ∷ ts) (u ∷ us) size h k = value_alike e t u shown (h ∙ sym k)
 
-    item_alike : (ts us : List Tuple) → IsPermutation ts us → StartsIn groups g ts → StartsIn groups g us → (i : Item) → shows_group i ≡ true → item_value ts i ≡ item_value us i
+    item_alike : (ts us : List Tuple) → IsPermutation ts us → StartsIn groups g ts → StartsIn groups g us → (i : Item) → is_of_group groups i ≡ true → item_value ts i ≡ item_value us i
     item_alike ts us same h k (item.Plain e) shown = first_alike e shown ts us (length_permutation ts us same) h k
     item_alike ts us same h k item.CountAll shown = ap (λ (n : ℕ). Ok (value.Int (pos n))) (sym (length_permutation ts us same))
     item_alike ts us same h k (item.Count c) shown =
@@ -83,10 +75,10 @@ module _ (groups : List ColRef) where
     item_alike ts us same h k (item.Max c) shown = ap Ok (greatest_in_any_order (values_of c ts) (values_of c us) (values_permuted c ts us same))
 
     -- a group's row is the same, in whatever order its rows are looked at
-    pub row_alike : (ts us : List Tuple) → IsPermutation ts us → StartsIn groups g ts → StartsIn groups g us → (items : List Item) → list_all shows_group items ≡ true → group_row items ts ≡ group_row items us
+    pub row_alike : (ts us : List Tuple) → IsPermutation ts us → StartsIn groups g ts → StartsIn groups g us → (items : List Item) → list_all (is_of_group groups) items ≡ true → group_row items ts ≡ group_row items us
     row_alike ts us same h k [] shown = refl
     row_alike ts us same h k (i ∷ items) shown =
-        let parts = and_parts (shows_group i) (list_all shows_group items) shown in
+        let parts = and_parts (is_of_group groups i) (list_all (is_of_group groups) items) shown in
         let one = item_alike ts us same h k i parts.0 in
         let others = row_alike ts us same h k items parts.1 in
         λ j. and_then (one j) (λ v. and_then (others j) (λ vs. Ok (v ∷ vs)))
@@ -94,7 +86,7 @@ module _ (groups : List ColRef) where
 -- ---- items that fit
 
 module _ (entries : Entries) (s : SelectStmt) (grouped : is_grouped s ≡ true) where
-  fit_shows : (i : Item) → item_fits entries s i ≡ true → shows_group s.groups i ≡ true
+  fit_shows : (i : Item) → item_fits entries s i ≡ true → is_of_group s.groups i ≡ true
   fit_shows (item.Plain e) fit =
       sym (ap (λ b. not b || is_group s.groups (column_in e)) grouped) ∙ (and_parts _ (not (is_grouped s) || is_group s.groups (column_in e)) fit).1
   fit_shows item.CountAll fit = refl
@@ -103,8 +95,8 @@ module _ (entries : Entries) (s : SelectStmt) (grouped : is_grouped s ≡ true) 
   fit_shows (item.Min c) fit = refl
   fit_shows (item.Max c) fit = refl
 
-  pub all_show : (items : List Item) → list_all (item_fits entries s) items ≡ true → list_all (shows_group s.groups) items ≡ true
+  pub all_show : (items : List Item) → list_all (item_fits entries s) items ≡ true → list_all (is_of_group s.groups) items ≡ true
   all_show [] fit = refl
   all_show (i ∷ items) fit =
       let parts = and_parts (item_fits entries s i) (list_all (item_fits entries s) items) fit in
-      and_from (shows_group s.groups i) (list_all (shows_group s.groups) items) (fit_shows i parts.0) (all_show items parts.1)
+      and_from (is_of_group s.groups i) (list_all (is_of_group s.groups) items) (fit_shows i parts.0) (all_show items parts.1)

@@ -14,6 +14,7 @@ ghost use Rattle.hr_meaning.specs.Select.{answer_from};
 ghost use Rattle.hr_meaning.specs.Exec.{kept, exec, failed};
 ghost use Rattle.hr_meaning.specs.SameAnswer.{SameAnswer};
 ghost use Rattle.hr_statement_laws.specs.Sizes.{is_small};
+ghost use Rattle.hr_statement_laws.specs.Groups.{shows_groups};
 
 /// No statement changes the catalog.
 pub fn keeps_catalog()
@@ -54,11 +55,11 @@ pub fn keeps_fitting()
 /// A SELECT answers the same, in whatever order the rows or pairs that it keeps are looked at: the same rows as often, or
 /// the same failure.
 ///
-/// One that groups gives them in the same order too, where its items fit. What is asked of the items is that a plain one of
-/// a SELECT that groups is a column of GROUP BY, which all rows of a group have alike; of the tables nothing is asked.
+/// One that groups gives its rows in the same order too. Where it groups, its items have to be aggregates and columns of
+/// GROUP BY, as those of one that fits are: any other item would show of a group what its first row has.
 pub fn in_any_order()
     ensures plain { (s : SelectStmt) (rows others : List Tuple) → is_grouped s ≡ false → IsPermutation rows others → SameAnswer (answer_from s rows) (answer_from s others) }
-    ensures grouped { (entries : Entries) (s : SelectStmt) (rows others : List Tuple) → is_grouped s ≡ true → items_fit entries s ≡ true → IsPermutation rows others → answer_from s rows ≡ answer_from s others }
+    ensures grouped { (s : SelectStmt) (rows others : List Tuple) → is_grouped s ≡ true → shows_groups s ≡ true → IsPermutation rows others → answer_from s rows ≡ answer_from s others }
     ensures fitting { (entries : Entries) (s : SelectStmt) (rows others : List Tuple) → items_fit entries s ≡ true → IsPermutation rows others → SameAnswer (answer_from s rows) (answer_from s others) }
     ensures run { (db : Database) (s : SelectStmt) (others : List Tuple) → fits db.catalog (stmt.Select s) ≡ true → IsPermutation (kept db s) others → SameAnswer (exec db (stmt.Select s)).answer (answer_from s others) }
 {}
