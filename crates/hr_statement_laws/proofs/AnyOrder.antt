@@ -1,17 +1,19 @@
--- The rows of a SELECT that doesn't group are the same, in whatever order the rows or pairs are looked at.
-use Rattle.std.proofs.Common.{◌≡◌, ℤ, ◌+ℤ◌, ◌-ℤ◌, ◌*ℤ◌, Bool, true, false, ◌||◌, cond, not, nat_lt, length, List, [], ◌∷◌, map, refl, ap, sym, subst, ◌∙◌}
+-- The answer of a SELECT is the same, in whatever order the rows or pairs that it keeps are looked at.
+use Rattle.std.proofs.Common.{◌≡◌, ℤ, ◌+ℤ◌, ◌-ℤ◌, ◌*ℤ◌, Bool, true, false, ◌||◌, cond, not, nat_lt, nat_le, ◌&&◌, length, List, [], ◌∷◌, map, refl, ap, sym, subst, ◌∙◌}
 use Rattle.std.specs.Prelude.{Result, Ok, Err}
-use Rattle.std.specs.List.{list_any}
+use Rattle.std.specs.List.{list_any, list_all}
 use Rattle.std.specs.List.Sorted.{IsPermutation}
-use Rattle.std.proofs.lemmas.List.Sorted.{IsPermutation-map, length_permutation, list_any-IsPermutation}
+use Rattle.std.proofs.lemmas.Bool.{and_parts}
+use Rattle.std.proofs.lemmas.List.{length-map}
+use Rattle.std.proofs.lemmas.List.Sorted.{IsPermutation-refl, IsPermutation-map, length_permutation, list_any-IsPermutation}
 use Rattle.hr_base.specs.Lists.{is_empty}
-use Rattle.hr_base.specs.declared.limits.TheConstants.{MAX_ROWS}
+use Rattle.hr_base.specs.declared.limits.TheConstants.{MAX_ROWS, MAX_ITEMS}
 use Rattle.hr_rel.specs.declared.value.Value.{Value}
 use Rattle.hr_rel.specs.declared.value.Value.TheVariants as value
 use Rattle.hr_rel.specs.declared.answer.Answer.{Answer}
-use Rattle.hr_rel.specs.declared.answer.Answer.TheVariants.{Failed}
+use Rattle.hr_rel.specs.declared.answer.Answer.TheVariants.{Rows, Count, Failed}
 use Rattle.hr_rel.specs.declared.answer.RunError.{RunError}
-use Rattle.hr_rel.specs.declared.answer.RunError.TheVariants.{Overflow, TooManyRows}
+use Rattle.hr_rel.specs.declared.answer.RunError.TheVariants.{Overflow, TooManyRows, Unfit}
 use Rattle.hr_rel.specs.declared.expr.ColRef.{ColRef}
 use Rattle.hr_rel.specs.declared.expr.Expr.{Expr, roll-Expr, map-Expr, ind-Expr}
 use Rattle.hr_rel.specs.declared.expr.Expr.TheVariants as expr
@@ -19,13 +21,20 @@ use Rattle.hr_rel.specs.declared.expr.Expr.TheOpen.{Expr-F}
 use Rattle.hr_rel.specs.declared.stmt.Item.{Item}
 use Rattle.hr_rel.specs.declared.stmt.Item.TheVariants as item
 use Rattle.hr_rel.specs.declared.stmt.SelectStmt.{SelectStmt}
+use Rattle.hr_rel.specs.declared.stmt.Stmt.TheVariants as stmt
+use Rattle.hr_rel.specs.Database.{Database}
 use Rattle.hr_rel.specs.Kinds.{fits_i64}
-use Rattle.hr_rel.specs.Fit.{is_grouped, is_plain}
+use Rattle.hr_rel.specs.Fit.{Entries, entries_of, has_table, has_column, filter_fits, is_joined, is_grouped, is_plain, item_fits, items_fit, fits}
 use Rattle.hr_meaning.specs.Truth.{Tuple}
 use Rattle.hr_meaning.specs.Value.{and_then, each, combined, operation, value_of}
-use Rattle.hr_meaning.specs.Select.{values_of, exact_sum, sum_value, item_value, group_row, plain_row, few, shown, groups_of, answer_from}
+use Rattle.hr_meaning.specs.Select.{values_of, exact_sum, sum_value, item_value, group_row, plain_row, few, shown, group_of, ascending, members, groups_of, answer_from}
+use Rattle.hr_meaning.specs.Exec.{exec, meaning, failed}
+use Rattle.hr_meaning.specs.Exec as run
 use Rattle.hr_meaning.specs.SameAnswer.{SameAnswer}
 use Rattle.hr_meaning.proofs.Folds.{value_lit, value_col, value_add, value_sub, value_mul}
+use Rattle.hr_statement_laws.specs.Groups.{is_of_group, shows_groups}
+use Rattle.hr_statement_laws.proofs.Groups.{StartsIn, groups_alike, members_permuted, members_start}
+use Rattle.hr_statement_laws.proofs.Items.{row_alike, all_show}
 
 -- ---- rows fail by Overflow alone
 
@@ -159,10 +168,78 @@ no_groups : (a b : Bool) → (a || b) ≡ false → a ≡ false
 no_groups true b e = cc
 no_groups false b e = refl
 
-pub in_any_order : (s : SelectStmt) (kept others : List Tuple) → is_grouped s ≡ false → IsPermutation kept others → SameAnswer (answer_from s kept) (answer_from s others)
-in_any_order s kept others plain same =
+pub plain_in_any_order : (s : SelectStmt) (kept others : List Tuple) → is_grouped s ≡ false → IsPermutation kept others → SameAnswer (answer_from s kept) (answer_from s others)
+plain_in_any_order s kept others plain same =
     let none = no_groups (not (is_empty s.groups)) (list_any (λ (i : Item). not (is_plain i)) s.items) plain in
     let as_rows : (ts : List Tuple) → answer_from s ts ≡ few (plain_row s.items) ts = λ ts.
     (λ i. cond (none i) (few (group_row s.items) (groups_of s.groups ts)) (cond (plain i) (few (group_row s.items) (ts ∷ [])) (few (plain_row s.items) ts))) in
     subst (λ (a : Answer). SameAnswer a (answer_from s others)) (sym (as_rows kept))
     (subst (λ (a : Answer). SameAnswer (few (plain_row s.items) kept) a) (sym (as_rows others)) (few_same s.items kept others same))
+
+-- ---- groups, and aggregates alone
+
+module _ (items : List Item) (f h : List Value → List Tuple) (alike : (g : List Value) → group_row items (f g) ≡ group_row items (h g)) where
+  each_alike : (gs : List (List Value)) → each (group_row items) (map f gs) ≡ each (group_row items) (map h gs)
+  each_alike [] = refl
+  each_alike (g ∷ gs) = λ i. and_then (alike g i) (λ row. and_then (each_alike gs i) (λ rows. Ok (row ∷ rows)))
+
+  few_alike : (gs : List (List Value)) → few (group_row items) (map f gs) ≡ few (group_row items) (map h gs)
+  few_alike gs =
+      let size = length-map gs f ∙ sym (length-map gs h) in
+      λ i. cond (nat_lt MAX_ROWS (size i)) (Failed TooManyRows) (shown (each_alike gs i))
+
+module _ (items : List Item) (kept others : List Tuple) (same : IsPermutation kept others) where
+  abbrev one_row : Result (List Value) RunError → Answer
+  one_row r = cond (nat_lt MAX_ROWS 1) (Failed TooManyRows) (shown (and_then r (λ row. Ok (row ∷ []))))
+
+  alone_alike : list_all (is_of_group []) items ≡ true → few (group_row items) (kept ∷ []) ≡ few (group_row items) (others ∷ [])
+  alone_alike fit =
+      ap one_row (row_alike [] [] kept others same (in_no_group kept) (in_no_group others) items fit)
+    where
+      in_no_group : (ts : List Tuple) → StartsIn [] [] ts
+      in_no_group [] = tt
+      in_no_group (t ∷ ts) = refl
+
+  each_group_alike : (groups : List ColRef) → list_all (is_of_group groups) items ≡ true → few (group_row items) (groups_of groups kept) ≡ few (group_row items) (groups_of groups others)
+  each_group_alike groups fit =
+      let rows = λ (g : List Value). row_alike groups g (members groups kept g) (members groups others g) (members_permuted groups g kept others same) (members_start groups g kept) (members_start groups g others) items fit in
+      few_alike items (members groups kept) (members groups others) rows (ascending (map (group_of groups) kept))
+      ∙ ap (λ gs. few (group_row items) (map (members groups others) gs)) (groups_alike groups kept others same)
+
+  -- what a SELECT that groups answers, of rows
+  abbrev grouped_answer : List ColRef → List Tuple → Answer
+  grouped_answer groups ts = cond (not (is_empty groups)) (few (group_row items) (groups_of groups ts)) (few (group_row items) (ts ∷ []))
+
+  grouped_alike : (groups : List ColRef) → list_all (is_of_group groups) items ≡ true → grouped_answer groups kept ≡ grouped_answer groups others
+  grouped_alike [] fit = alone_alike fit
+  grouped_alike (c ∷ groups) fit = each_group_alike (c ∷ groups) fit
+
+pub grouped_in_any_order : (s : SelectStmt) (kept others : List Tuple) → is_grouped s ≡ true → shows_groups s ≡ true → IsPermutation kept others → answer_from s kept ≡ answer_from s others
+grouped_in_any_order s kept others grouped shows same =
+    let as_groups : (ts : List Tuple) → answer_from s ts ≡ grouped_answer s.items kept others same s.groups ts = λ ts.
+    (λ i. cond (not (is_empty s.groups)) (few (group_row s.items) (groups_of s.groups ts)) (cond (grouped i) (few (group_row s.items) (ts ∷ [])) (few (plain_row s.items) ts))) in
+    as_groups kept ∙ grouped_alike s.items kept others same s.groups shows ∙ sym (as_groups others)
+
+-- ---- every SELECT that fits
+
+same_itself : (a : Answer) → SameAnswer a a
+same_itself (Rows rows) = IsPermutation-refl rows
+same_itself (Count n) = refl
+same_itself (Failed e) = refl
+
+pub fitting_in_any_order : (entries : Entries) (s : SelectStmt) (kept others : List Tuple) → items_fit entries s ≡ true → IsPermutation kept others → SameAnswer (answer_from s kept) (answer_from s others)
+fitting_in_any_order entries s kept others fit same = by_groups (is_grouped s) refl
+  where
+    by_groups : (b : Bool) → is_grouped s ≡ b → SameAnswer (answer_from s kept) (answer_from s others)
+    by_groups true e =
+        let each_fits = (and_parts (not (is_empty s.items) && nat_le (length s.items) MAX_ITEMS) (list_all (item_fits entries s) s.items) fit).1 in
+        let alike = grouped_in_any_order s kept others e (all_show entries s e s.items each_fits) same in
+        subst (λ (a : Answer). SameAnswer (answer_from s kept) a) alike (same_itself (answer_from s kept))
+    by_groups false e = plain_in_any_order s kept others e same
+
+pub exec_in_any_order : (db : Database) (s : SelectStmt) (others : List Tuple) → fits db.catalog (stmt.Select s) ≡ true → IsPermutation (run.kept db s) others → SameAnswer (exec db (stmt.Select s)).answer (answer_from s others)
+exec_in_any_order db s others fit same =
+    let entries = entries_of db.catalog s.tables in
+    let items = and_parts (is_joined s.tables s.on && list_all (has_table db.catalog) s.tables && filter_fits entries s.on && filter_fits entries s.filter && list_all (has_column entries) s.groups) (items_fit entries s) fit in
+    let runs : (exec db (stmt.Select s)).answer ≡ answer_from s (run.kept db s) = ap (λ b. (cond b (meaning db (stmt.Select s)) (failed db Unfit)).answer) fit in
+    subst (λ (a : Answer). SameAnswer a (answer_from s others)) (sym runs) (fitting_in_any_order entries s (run.kept db s) others items.1 same)

@@ -4,4 +4,8 @@ pub mod Ascending
 pub mod Ordered
 pub mod Fitting
 pub mod StillHolds
+pub mod Permutations
+pub mod Aggregates
+pub mod Groups
+pub mod Items
 pub mod AnyOrder

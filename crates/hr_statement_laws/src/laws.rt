@@ -7,13 +7,14 @@ ghost use Rattle.hr_rel.specs.declared.stmt.Stmt.{Stmt};
 ghost use Rattle.hr_rel.specs.declared.stmt.Stmt.TheVariants as stmt;
 ghost use Rattle.hr_rel.specs.declared.stmt.SelectStmt.{SelectStmt};
 ghost use Rattle.hr_rel.specs.Database.{Database};
-ghost use Rattle.hr_rel.specs.Fit.{fits, is_grouped};
+ghost use Rattle.hr_rel.specs.Fit.{Entries, fits, is_grouped, items_fit};
 ghost use Rattle.hr_rel.specs.Holds.{holds, IsSound, IsOrdered};
 ghost use Rattle.hr_meaning.specs.Truth.{Tuple};
 ghost use Rattle.hr_meaning.specs.Select.{answer_from};
-ghost use Rattle.hr_meaning.specs.Exec.{exec, failed};
+ghost use Rattle.hr_meaning.specs.Exec.{kept, exec, failed};
 ghost use Rattle.hr_meaning.specs.SameAnswer.{SameAnswer};
 ghost use Rattle.hr_statement_laws.specs.Sizes.{is_small};
+ghost use Rattle.hr_statement_laws.specs.Groups.{shows_groups};
 
 /// No statement changes the catalog.
 pub fn keeps_catalog()
@@ -51,7 +52,14 @@ pub fn keeps_fitting()
     ensures keeps { (db : Database) (s : Stmt) → IsSound db.catalog → holds db.catalog db.tables ≡ true → holds (exec db s).after.catalog (exec db s).after.tables ≡ true }
 {}
 
-/// A SELECT that doesn't group answers the same, in whatever order the rows or pairs that it keeps are looked at.
+/// A SELECT answers the same, in whatever order the rows or pairs that it keeps are looked at: the same rows as often, or
+/// the same failure.
+///
+/// One that groups gives its rows in the same order too. Where it groups, its items have to be aggregates and columns of
+/// GROUP BY, as those of one that fits are: any other item would show of a group what its first row has.
 pub fn in_any_order()
-    ensures { (s : SelectStmt) (kept others : List Tuple) → is_grouped s ≡ false → IsPermutation kept others → SameAnswer (answer_from s kept) (answer_from s others) }
+    ensures plain { (s : SelectStmt) (rows others : List Tuple) → is_grouped s ≡ false → IsPermutation rows others → SameAnswer (answer_from s rows) (answer_from s others) }
+    ensures grouped { (s : SelectStmt) (rows others : List Tuple) → is_grouped s ≡ true → shows_groups s ≡ true → IsPermutation rows others → answer_from s rows ≡ answer_from s others }
+    ensures fitting { (entries : Entries) (s : SelectStmt) (rows others : List Tuple) → items_fit entries s ≡ true → IsPermutation rows others → SameAnswer (answer_from s rows) (answer_from s others) }
+    ensures run { (db : Database) (s : SelectStmt) (others : List Tuple) → fits db.catalog (stmt.Select s) ≡ true → IsPermutation (kept db s) others → SameAnswer (exec db (stmt.Select s)).answer (answer_from s others) }
 {}
