@@ -1,14 +1,16 @@
 //! What a view tells, as its record does.
-ghost use Rattle.std.specs.Prelude.{◌≡◌, length};
+ghost use Rattle.std.specs.Prelude.{◌≡◌, ◌+◌, ◌*◌, length, map};
 ghost use Rattle.std.specs.Option.{option_map};
 ghost use Rattle.hr_base.specs.Lists.{numbered};
 ghost use Rattle.hr_history.specs.Given.{Given};
 ghost use Rattle.hr_history.specs.Processed as history;
-ghost use Rattle.hr_history.specs.Processed.{txn_in, phase_in, replica_in, answers_in, runs_in, processed_in};
+ghost use Rattle.hr_history.specs.Processed.{txn_in, phase_in, replica_in, answers_in, runs_in, processed_in, live_in, attempt_in};
 ghost use Rattle.hr_history.specs.Ranks.{is_before, rank_by, ranks_before};
 ghost use Rattle.hr_moves.specs.Kept.{open_in, touched_in};
 ghost use Rattle.hr_moves.specs.Sane.{IsReplica};
+ghost use Rattle.hr_progress.specs.Plain.{plain_entry, plain_attempt_in};
 
+use crate::attempt::Attempt;
 use crate::progress::{
     answered_at, convicted_of, doubt_of, is_logged_by, lost_of, out_of, position_of, processed_of,
     touched_of,
@@ -17,6 +19,7 @@ use crate::txn::{given_of, phase_of, stamp_at, statements_of};
 use crate::view::View;
 use hr_engine::TxnId;
 use hr_history::{Job, Phase};
+use indexmap::IndexMap;
 
 impl View {
     /// The decided transactions, in the order of their decisions.
@@ -139,6 +142,50 @@ impl View {
         ensures { result ≡ ranks_before self.now a b }
     {
         is_before(self.phase(a), a, self.phase(b), b)
+    }
+
+    /// How many replicas there are.
+    pub fn replicas(&self) -> u64
+        ensures { result ≡ 2 * self.now.f + 1 }
+    {
+        2 * self.f as u64 + 1
+    }
+
+    /// The replica after which the search for a candidate starts.
+    pub fn search_after(&self) -> u32
+        ensures { result ≡ self.now.search_after }
+    {
+        self.search_after
+    }
+
+    /// Whether a replica is neither lost nor convicted.
+    pub fn is_live(&self, replica: u64) -> bool
+        ensures { result ≡ live_in self.now replica }
+    {
+        match self.replicas.get(replica as usize) {
+            Some(progress) => !progress.lost && !progress.convicted,
+            None => true,
+        }
+    }
+
+    /// Whether a transaction was preempted at a replica since its attempt there began.
+    pub fn is_preempted(&self, replica: u32, txn: TxnId) -> bool
+        ensures { result ≡ (attempt_in self.now replica txn).preempted }
+    {
+        match self.replicas.get(replica as usize) {
+            Some(progress) => preempted_in(&progress.attempts, txn),
+            None => false,
+        }
+    }
+}
+
+// Whether a transaction was preempted since its attempt began.
+fn preempted_in(attempts: &IndexMap<TxnId, Attempt>, txn: TxnId) -> bool
+    ensures { result ≡ (plain_attempt_in (map plain_entry attempts.now.entries) txn).preempted }
+{
+    match attempts.get(&txn) {
+        Some(attempt) => attempt.preempted,
+        None => false,
     }
 }
 

@@ -1,0 +1,43 @@
+//! The primary: who may be the next, and whether it is caught up.
+#![tactic(auto)]
+
+ghost use Rattle.std.specs.Prelude.{◌≡◌, ◌-◌, find};
+ghost use Rattle.std.specs.List.{range_with_len};
+ghost use Rattle.hr_history.specs.Processed.{live_in, candidate_in, is_caught_up};
+ghost use Rattle.hr_moves.specs.Sane.{IsReplica};
+
+use hr_progress::View;
+
+/// The candidate: the first live replica from the one after the start of the search on, and round to that. None where every
+/// replica is lost or convicted.
+pub fn candidate(view: &View) -> Option<u64>
+    ensures { result ≡ candidate_in view.now }
+{
+    // the search starts at a replica
+    view.sane();
+    let next = view.search_after() as u64 + 1;
+    match first_live(view, next, view.replicas()) {
+        Some(replica) => Some(replica),
+        None => first_live(view, 0, next),
+    }
+}
+
+/// Whether a replica has committed the whole log.
+pub fn caught_up(view: &View, replica: u32) -> bool
+    requires { IsReplica view.now replica }
+    ensures { result ≡ is_caught_up view.now replica }
+{
+    view.position(replica) == view.commits()
+}
+
+// The first live one of the replicas from this one on, up to another and without that.
+fn first_live(view: &View, from: u64, to: u64) -> Option<u64>
+    ensures { result ≡ find (live_in view.now) (range_with_len from (to - from)) }
+{
+    'replicas: for replica in from..to {
+        if view.is_live(replica) {
+            return Some(replica);
+        }
+    }
+    None
+}
