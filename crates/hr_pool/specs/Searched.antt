@@ -1,4 +1,4 @@
--- The rules' searches, over what the view keeps in place of all transactions.
+-- Not to be believed: the rules' searches, over what the view keeps in place of all transactions. The laws say what they find.
 use Rattle.std.specs.Prelude.{ℕ, Bool, not, ◌&&◌, ◌||◌, Option, List, [], ◌∷◌, drop, filter, find}
 use Rattle.std.specs.List.{list_any}
 use Rattle.hr_base.specs.Lists.{first_some}
