@@ -7,7 +7,6 @@ use Rattle.hr_moves.specs.Moves.{after_submit}
 use Rattle.hr_history.specs.declared.entry.Event.TheVariants as event
 use Rattle.hr_rel.specs.declared.stmt.Stmt.{Stmt}
 use Rattle.hr_history.specs.Replicas.{any_stmt}
-use Rattle.hr_progress.proofs.Txns.{open_known}
 use Rattle.hr_sane.proofs.MoveLaws.{moves}
 use Rattle.hr_progress.proofs.Sanes.{sane_after}
 use Rattle.hr_progress.specs.Plain.{PlainView, plain, with_statement}
@@ -28,7 +27,7 @@ after c =
     ∙ ap (with_txn c.args.txn more) (seen_rest p c.self.invariant.places) ∙ ap (λ v. after_submit v c.args.txn) c.self.view_is
 
 pub returns-clause-ok : goal.returns-clause-ok
-returns-clause-ok c = λ place asks index (stmt : Stmt). after c ∙ sym (moves c.args.self.now place asks (subst IsSane c.self.view_is c.self.invariant.sane) (event.Submit c.args.txn index stmt) (open_known c.args.self.now c.args.txn c.requires.open))
+returns-clause-ok c = λ place asks index (stmt : Stmt). after c ∙ sym (moves c.args.self.now place asks (subst IsSane c.self.view_is c.self.invariant.sane) (event.Submit c.args.txn index stmt) c.requires.open)
 
 pub invariant_of-self-2 : goal.invariant_of-self-2
 invariant_of-self-2 c =
@@ -36,7 +35,7 @@ invariant_of-self-2 c =
     let opened = opened_plain (plain c.self.inside) c.args.txn (subst (λ (v : View). IsOpen v c.args.txn) (sym c.self.view_is) c.requires.open) in
     let shut = closed (plain c.self.inside) c.self.invariant.sane in
     record {
-      sane = subst IsSane (sym (after c)) (sane_after c.args.self.now 0 0 (event.Submit c.args.txn 0 any_stmt) (subst IsSane c.self.view_is c.self.invariant.sane) (open_known c.args.self.now c.args.txn c.requires.open));
+      sane = subst IsSane (sym (after c)) (sane_after c.args.self.now 0 0 (event.Submit c.args.txn 0 any_stmt) (subst IsSane c.self.view_is c.self.invariant.sane) c.requires.open);
       kept = subst IsKept (sym (moved c)) (kept_open p c.args.txn with_statement opened shut record { opened = c.self.invariant.kept.opened; counted = c.self.invariant.kept.counted } opened);
       places = subst ArePlaces (sym (moved c)) (places_open p c.args.txn with_statement (λ x. refl) record { told = c.self.invariant.places.told; given = c.self.invariant.places.given });
       room = record { log = c.self.invariant.room.log; given = c.add_statement.ensures.room c.self.invariant.room.given };
