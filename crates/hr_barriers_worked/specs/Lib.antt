@@ -1,3 +1,4 @@
 pub mod OneRow
 pub mod WrongPrimary
+pub mod WrongSecondary
 pub mod HonestConvicted
