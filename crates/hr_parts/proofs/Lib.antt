@@ -1,0 +1,10 @@
+pub mod Cover
+pub mod Rows
+pub mod Tuples
+pub mod Changes
+pub mod Statements
+pub mod WholeTables
+pub mod KeyLaws
+pub mod KeyParts
+pub mod Lists
+pub mod Together

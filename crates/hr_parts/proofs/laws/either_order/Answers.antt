@@ -1,0 +1,8 @@
+use Rattle.hr_parts.proofs.Together.{same_answers_second, same_in_the_end}
+use Rattle.hr_parts.proofs.laws.either_order.Goals as goal
+
+pub returns-clause-database : goal.returns-clause-database
+returns-clause-database c = same_in_the_end
+
+pub returns-clause-answers : goal.returns-clause-answers
+returns-clause-answers c = same_answers_second

@@ -1,0 +1,4 @@
+pub mod Parts
+pub mod Footprints
+pub mod Keys
+pub mod Attempts
