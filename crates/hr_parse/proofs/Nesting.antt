@@ -1,8 +1,6 @@
 -- The readers of what operators tie together, whose rules lead back to themselves, read what the grammar says.
-use Rattle.std.proofs.Common.{◌≡◌, ◌≤◌, ℕ, zero, suc, ◌+◌, ◌*◌, Bool, true, false, if◌then◌else◌, List, [], ◌∷◌, ◌++◌, drop, ◌==◌, refl, sym, ap, subst, arith, append_assoc}
+use Rattle.std.proofs.Common.{◌≡◌, ℕ, zero, suc, ◌+◌, Bool, true, false, if◌then◌else◌, List, [], ◌∷◌, ◌++◌, ◌==◌, refl, sym, subst, arith, append_assoc}
 use Rattle.std.proofs.lemmas.List.{append-nil}
-use Rattle.hr_parse.specs.declared.ast.CondAst.{CondAst}
-use Rattle.hr_parse.specs.declared.ast.ExprAst.{ExprAst}
 use Rattle.hr_parse.specs.declared.word.Mark.{Mark}
 use Rattle.hr_parse.specs.declared.word.Mark.TheVariants as m
 use Rattle.hr_parse.specs.declared.word.Sign.TheVariants as sg
@@ -10,10 +8,10 @@ use Rattle.hr_parse.specs.declared.word.Word.TheVariants as w
 use Rattle.hr_parse.specs.declared.word.Lexeme.{Lexeme}
 use Rattle.hr_parse.specs.Trees.{simple}
 use Rattle.hr_parse.specs.Words.{mark}
-use Rattle.hr_parse.specs.Readers.{Reader, Outcome, and_then, pure, sees, place, expect, ahead_at, chosen}
-use Rattle.hr_parse.specs.Grammar.{Language, IsMark, Gives, Seq, Map, Either, among as among_literals, range_or_list, check, predicate, OneOf, Operators, between_parts, Tied, read_tied, tied_behind, conditions, expressions}
+use Rattle.hr_parse.specs.Readers.{Reader, chosen}
+use Rattle.hr_parse.specs.Grammar.{Language, IsMark, Gives, Seq, Map, Either, among as among_literals, range_or_list, check, predicate, OneOf, Operators, between_parts, Tied, read_tied, tied_behind, conditions, IsCond, expressions, IsExpr}
 use Rattle.hr_parse.proofs.Shapes.{kind, among, among_first, among_second, and_true, apart, only, Shape, a_mark, nothing, ◌▸◌, ◌∥◌, Begins, Stops, stops_none, stops_neither, stops_join, begins_as, begins_on, or_second, equal_self}
-use Rattle.hr_parse.proofs.Rules.{Rule, rule_shape, rule_iso, rule_weak, rule_seq, rule_pure, rule_map, rule_key, rule_case, rule_refuse, rule_alike, less}
+use Rattle.hr_parse.proofs.Rules.{Rule, rule_shape, rule_iso, rule_weak, rule_seq, rule_pure, rule_map, rule_key, rule_refuse, less}
 use Rattle.hr_parse.proofs.Operands.{Fits, parts, rule_ahead, predicates, rule_predicate, operands, rule_operand}
 
 -- ---- by the first word
@@ -76,7 +74,7 @@ rule_chosen {f = f} {g = g} {L = L} {M = M} {s = s} {d = d} {P = P} {Q = Q} (x �
     let far = and_true (apart (only x.0) (kinds rest ++ d.starts)) (differ rest d.starts) e in
     let c : Shape = (a_mark x.0 ▸ s) ∥ choice rest s d in
     let both : Rule (chosen (x ∷ rest) f g) (Choice (x ∷ rest) L M) c P =
-        rule_iso (to_choice x rest L M) (of_choice x rest L M) (rule_ahead {P = P} {Q = Q} x.0 shorter (λ _. here x.1) (rule_chosen rest shorter here there far.1) far.0) in
+    rule_iso (to_choice x rest L M) (of_choice x rest L M) (rule_ahead {P = P} {Q = Q} x.0 shorter (λ _. here x.1) (rule_chosen rest shorter here there far.1) far.0) in
     rule_shape (choice (x ∷ rest) s d) (λ u a l. begins_as c (choice (x ∷ rest) s d) refl refl u (both.begins u a l)) (choice_stops d.empty s.empty (kind (w.Fixed x.0)) (kinds rest) s.stops d.stops) both
 
 one_of_kind : {B : Type 0} (marks : List (Mark × B)) (k : Mark) (b : B) → OneOf marks k b → among (kinds marks) (kind (w.Fixed k)) ≡ true
@@ -250,12 +248,12 @@ plain_condition : (n : ℕ) → Rule (predicate n).reads (predicate 0).gives pre
 unfolding predicate check range_or_list among_literals
 plain_condition n = rule_predicate n
 
-pub rule_condition : (n : ℕ) → Rule (read_tied conditions 2 n) (Tied conditions 2) conds (Fits 6 n)
+pub rule_condition : (n : ℕ) → Rule (read_tied conditions 2 n) IsCond conds (Fits 6 n)
 rule_condition n = (at_depth conditions predicates (record { full = refl; before = refl; tight = refl; loose = refl; plain = refl; behind_part = refl; behind_group = refl; behind_whole = refl }) plain_condition n).whole
 
 abbrev pub exprs : Shape
 exprs = at expressions operands 2
 
-pub rule_expression : (n : ℕ) → Rule (read_tied expressions 2 n) (Tied expressions 2) exprs (Fits 6 n)
+pub rule_expression : (n : ℕ) → Rule (read_tied expressions 2 n) IsExpr exprs (Fits 6 n)
 rule_expression n =
     (at_depth expressions operands (record { full = refl; before = refl; tight = refl; loose = refl; plain = refl; behind_part = refl; behind_group = refl; behind_whole = refl }) (λ k. rule_map simple (rule_operand (parts 3 k))) n).whole

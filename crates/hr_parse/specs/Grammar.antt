@@ -35,7 +35,7 @@ use Rattle.hr_lex.specs.declared.token.Keyword.TheVariants as kw
 use Rattle.hr_parse.specs.declared.word.Sign.{Sign}
 use Rattle.hr_parse.specs.declared.word.Sign.TheVariants as sg
 use Rattle.hr_parse.specs.declared.word.Lexeme.{Lexeme}
-use Rattle.hr_parse.specs.Words.{mark, keyword, sign, named, number, text, compare}
+use Rattle.hr_parse.specs.Words.{mark, sign, named, number, text, compare}
 use Rattle.hr_parse.specs.Readers.{Reader, and_then, pure, refuse, sees, sees_name, compares, expect, ahead_at, chosen, expect_equal, read_compare, read_name, negative, constant, listed_behind}
 use Rattle.hr_parse.specs.Trees.{minus, sum, difference, product, placed, simple}
 
@@ -261,8 +261,11 @@ conditions = record {
   loose = (m.Keyword kw.Or, cond_of.Or) ∷ [];
 }
 
+abbrev pub IsCond : Language CondAst
+IsCond = Tied conditions 2
+
 abbrev pub condition : ℕ → Grammar CondAst
-condition n = rule (Tied conditions 2) (read_tied conditions 2 n)
+condition n = rule IsCond (read_tied conditions 2 n)
 
 -- expr = term { ( "+" | "-" ) term }, term = factor { "*" factor }, factor = "(" expr ")" | operand
 abbrev pub expressions : Operators ExprAst
@@ -274,8 +277,11 @@ expressions = record {
   loose = (m.Sign sg.Plus, sum) ∷ (m.Sign sg.Minus, difference) ∷ [];
 }
 
+abbrev pub IsExpr : Language ExprAst
+IsExpr = Tied expressions 2
+
 abbrev pub expression : ℕ → Grammar ExprAst
-expression n = rule (Tied expressions 2) (read_tied expressions 2 n)
+expression n = rule IsExpr (read_tied expressions 2 n)
 
 -- ---- SELECT
 
