@@ -160,6 +160,10 @@ ahead_alike : {A : Type 0} (b : Bool) (p : ℕ) (f : ℕ → Reader A) (r : Outc
 ahead_alike true p f r u t = refl
 ahead_alike false p f r u t = refl
 
+pub rule_ahead : {A : Type 0} {f : ℕ → Reader A} {g : Reader A} {L : ℕ → Language A} {M : Language A} {s d : Shape} {P Q : ℕ → Type 0} (k : Mark) → ((i : ℕ) → P (suc i) → Q i)
+    → ((p : ℕ) → Rule (f p) (L p) s Q) → Rule g M d P → apart (only k) d.starts ≡ true → Rule (ahead_at k f g) (Either (Seq (IsMark k) L) M) ((a_mark k ▸ s) ∥ d) P
+rule_ahead {f = f} {g = g} k shorter here there far = rule_alike (ahead_at k f g) (λ u. ahead_alike (sees k u) (place u) f (g u) u (drop 1 u)) (rule_case k shorter here there far)
+
 data Behind {A : Type 0} (L : List Lexeme → A → Type 0) (front : List A) : List Lexeme → List A → Type 0 where
   behind : {u : List Lexeme} {all : List A} → Listed L u all → Behind L front u (front ++ all)
 
@@ -200,9 +204,7 @@ module _ {A : Type 0} (f : Reader A) (L : Language A) (s : Shape) (k n : ℕ) (s
   listed_all zero front = rule_refuse r.words (front ++ r.tree ∷ []) (Behind.behind (Listed.one r.some)) (behind_begins L s full r.begins front) (λ i h. omega (arith, h.1))
   listed_all (suc most) front = rule_shape (lists s) (behind_begins L s full r.begins front) (stops_inside (s ▸ ((a_mark (m.Sign sg.Comma) ▸ lists s) ∥ nothing)).stops (lists s).stops covers) (rule_iso (to_behind L front) (of_behind L front)
       (rule_seq {P = Turns k n (suc most)} (λ i j h. ((omega (arith, h.0), omega (arith, h.1)), (omega (arith, h.0), omega (arith, h.1)))) (rule_weak (Turns k n (suc most)) (λ i h. h.0) r)
-      (λ a. rule_alike (ahead_at (m.Sign sg.Comma) (λ _. listed_behind f most (front ++ a ∷ [])) (pure (front ++ a ∷ [])))
-      (λ u. ahead_alike (sees (m.Sign sg.Comma) u) (place u) (λ _. listed_behind f most (front ++ a ∷ [])) (pure (front ++ a ∷ []) u) u (drop 1 u))
-      (rule_case {P = Turns k n (suc most)} (m.Sign sg.Comma) (λ i h. (omega (arith, h.0), omega (arith, h.1))) (λ _. listed_all most (front ++ a ∷ [])) (rule_pure (front ++ a ∷ [])) refl)) far))
+      (λ a. rule_ahead {P = Turns k n (suc most)} (m.Sign sg.Comma) (λ i h. (omega (arith, h.0), omega (arith, h.1))) (λ _. listed_all most (front ++ a ∷ [])) (rule_pure (front ++ a ∷ [])) refl) far))
 
 to_listed : {A : Type 0} (L : Language A) (u : List Lexeme) (all : List A) → Behind L [] u all → Listed L u all
 to_listed L u all (Behind.behind ls) = ls

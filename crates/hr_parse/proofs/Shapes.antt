@@ -43,12 +43,16 @@ among_neither (j ∷ js) ks k e =
     let t = among_neither js ks k h.1 in
     (rw (h.0) (t.0), t.1)
 
+among_both : (js ks : List ℕ) (k : ℕ) → among js k ≡ false → among ks k ≡ false → among (js ++ ks) k ≡ false
+among_both [] ks k e h = h
+among_both (j ∷ js) ks k e h = let q = either_false (j == k) (among js k) e in rw (q.0) (among_both js ks k q.1 h)
+
 -- each kind of the one is in the other
 abbrev pub inside : List ℕ → List ℕ → Bool
 inside [] ks = true
 inside (j ∷ js) ks = if among ks j then inside js ks else false
 
-and_true : (a b : Bool) → (if a then b else false) ≡ true → (a ≡ true) × (b ≡ true)
+pub and_true : (a b : Bool) → (if a then b else false) ≡ true → (a ≡ true) × (b ≡ true)
 and_true true b e = (refl, e)
 and_true false b e = absurd (cc)
 
@@ -67,11 +71,11 @@ grows : (a b c : Bool) → (b ≡ true → c ≡ true) → (if a then true else 
 grows true b c h e = refl
 grows false b c h e = h e
 
-among_first : (js ks : List ℕ) (k : ℕ) → among js k ≡ true → among (js ++ ks) k ≡ true
+pub among_first : (js ks : List ℕ) (k : ℕ) → among js k ≡ true → among (js ++ ks) k ≡ true
 among_first [] ks k e = absurd (cc)
 among_first (j ∷ js) ks k e = grows (j == k) (among js k) (among (js ++ ks) k) (among_first js ks k) e
 
-or_second : (a b : Bool) → b ≡ true → (if a then true else b) ≡ true
+pub or_second : (a b : Bool) → b ≡ true → (if a then true else b) ≡ true
 or_second true b e = refl
 or_second false b e = e
 
@@ -150,6 +154,10 @@ pub stops_inside : (js ks : List ℕ) → inside js ks ≡ true → (t : List Le
 stops_inside js ks e [] st = tt
 stops_inside js ks e (x ∷ t) st = among_inside js ks (kind x.word) e st
 
+pub stops_join : (js ks : List ℕ) (t : List Lexeme) → Stops js t → Stops ks t → Stops (js ++ ks) t
+stops_join js ks [] st so = tt
+stops_join js ks (x ∷ t) st so = among_both js ks (kind x.word) st so
+
 -- where the second may be nothing, what would go on with the first may not follow either
 pub stops_both : (e : Bool) (js ks : List ℕ) (t : List Lexeme) → Stops (if e then js ++ ks else js) t → Stops js t × (e ≡ true → Stops ks t)
 stops_both true js ks t st = let k = stops_neither js ks t st in (k.0, λ h. k.1)
@@ -180,3 +188,7 @@ begins_second s t (x ∷ u) b = among_second s.starts t.starts (kind x.word) b
 pub begins_as : (s t : Shape) → s.starts ≡ t.starts → s.empty ≡ t.empty → (u : List Lexeme) → Begins s u → Begins t u
 begins_as s t e h [] b = sym h ∙ b
 begins_as s t e h (x ∷ u) b = subst (λ z. among z (kind x.word) ≡ true) e b
+
+pub begins_on : (s : Shape) (u v : List Lexeme) → s.empty ≡ false → Begins s u → Begins s (u ++ v)
+begins_on s [] v e b = absurd (cc)
+begins_on s (x ∷ u) v e b = b

@@ -35,8 +35,8 @@ use Rattle.hr_lex.specs.declared.token.Keyword.TheVariants as kw
 use Rattle.hr_parse.specs.declared.word.Sign.{Sign}
 use Rattle.hr_parse.specs.declared.word.Sign.TheVariants as sg
 use Rattle.hr_parse.specs.declared.word.Lexeme.{Lexeme}
-use Rattle.hr_parse.specs.Words.{mark, keyword, sign, named, number, text, compare}
-use Rattle.hr_parse.specs.Readers.{Reader, and_then, pure, refuse, sees, sees_name, compares, expect, expect_equal, read_compare, read_name, negative, constant, listed_behind}
+use Rattle.hr_parse.specs.Words.{mark, sign, named, number, text, compare}
+use Rattle.hr_parse.specs.Readers.{Reader, and_then, pure, refuse, sees, sees_name, compares, expect, ahead_at, chosen, expect_equal, read_compare, read_name, negative, constant, listed_behind}
 use Rattle.hr_parse.specs.Trees.{minus, sum, difference, product, placed, simple}
 
 -- which words are in a language, and with which tree
@@ -208,112 +208,80 @@ predicate n = do
   left ← operand
   check n left
 
-mutual
-  -- neg = NOT neg | "(" cond ")" | operand check
-  pub data IsNeg : List Lexeme → CondAst → Type 0 where
-    negation : (p : ℕ) {u : List Lexeme} {a : CondAst} → IsNeg u a → IsNeg (keyword kw.Not p ∷ u) (cond_of.Not a)
-    parens : (p q : ℕ) {u : List Lexeme} {a : CondAst} → IsCond u a → IsNeg (sign sg.LeftParen p ∷ (u ++ (sign sg.RightParen q ∷ []))) a
-    test : {u : List Lexeme} {a : CondAst} → (predicate 0).gives u a → IsNeg u a
+-- ---- operators
 
-  -- conj = neg { AND neg }, grouped from the left
-  pub data IsConj : List Lexeme → CondAst → Type 0 where
-    conj : {u v : List Lexeme} {a b : CondAst} → IsNeg u a → AndMore a v b → IsConj (u ++ v) b
+-- an operator of these, and what it makes
+pub data OneOf {B : Type 0} : List (Mark × B) → Mark → B → Type 0 where
+  here : {x : Mark × B} {rest : List (Mark × B)} → OneOf (x ∷ rest) x.0 x.1
+  there : {x : Mark × B} {rest : List (Mark × B)} {m : Mark} {b : B} → OneOf rest m b → OneOf (x ∷ rest) m b
 
-  -- { AND neg } behind what stands left of it
-  pub data AndMore : CondAst → List Lexeme → CondAst → Type 0 where
-    and_done : {a : CondAst} → AndMore a [] a
-    and_more : (p : ℕ) {u v : List Lexeme} {a b c : CondAst} → IsNeg u b → AndMore (cond_of.And a b) v c → AndMore a (keyword kw.And p ∷ (u ++ v)) c
+-- What operators tie together: the plain parts, the tree of one in parentheses that open at a place, and with the trees that they
+-- make the operators before a part, the tight ones between parts, and the loose ones.
+pub record Operators (A : Type 0) : Type 1 where
+  pub plain : ℕ → Grammar A
+  pub placed : ℕ → A → A
+  pub before : List (Mark × (A → A))
+  pub tight : List (Mark × (A → A → A))
+  pub loose : List (Mark × (A → A → A))
 
-  -- cond = conj { OR conj }, grouped from the left
-  pub data IsCond : List Lexeme → CondAst → Type 0 where
-    cond : {u v : List Lexeme} {a b : CondAst} → IsConj u a → OrMore a v b → IsCond (u ++ v) b
+-- the operators between parts of a level
+abbrev pub between_parts : {A : Type 0} → Operators A → ℕ → List (Mark × (A → A → A))
+between_parts o zero = o.tight
+between_parts o (suc level) = o.loose
 
-  -- { OR conj } behind what stands left of it
-  pub data OrMore : CondAst → List Lexeme → CondAst → Type 0 where
-    or_done : {a : CondAst} → OrMore a [] a
-    or_more : (p : ℕ) {u v : List Lexeme} {a b c : CondAst} → IsConj u b → OrMore (cond_of.Or a b) v c → OrMore a (keyword kw.Or p ∷ (u ++ v)) c
-
-abbrev pub neg_of : ℕ → Grammar CondAst → Grammar CondAst → Grammar CondAst
-neg_of n part whole = (do key kw.Not; part giving cond_of.Not) or (do punct sg.LeftParen; inner ← whole; punct sg.RightParen; gives inner) or predicate n
+-- parts of a level: 0 without operators between, 1 with tight ones, 2 with loose ones
+pub data Tied {A : Type 0} (o : Operators A) : ℕ → List Lexeme → A → Type 0 where
+  -- tied 0 = before (tied 0) | "(" tied 2 ")" | plain
+  prefixed : (p : ℕ) {m : Mark} {h : A → A} {u : List Lexeme} {a : A} → OneOf o.before m h → Tied o 0 u a → Tied o 0 (mark m p ∷ u) (h a)
+  parens : (p q : ℕ) {u : List Lexeme} {a : A} → Tied o 2 u a → Tied o 0 (sign sg.LeftParen p ∷ (u ++ (sign sg.RightParen q ∷ []))) (o.placed p a)
+  plain : {u : List Lexeme} {a : A} → (o.plain 0).gives u a → Tied o 0 u a
+  -- tied (level + 1) = tied level { between_parts (tied level) }, grouped from the left
+  one : {level : ℕ} {u : List Lexeme} {a : A} → Tied o level u a → Tied o (suc level) u a
+  more : (p : ℕ) {level : ℕ} {m : Mark} {h : A → A → A} {u v : List Lexeme} {a b : A}
+      → Tied o (suc level) u a → OneOf (between_parts o level) m h → Tied o level v b → Tied o (suc level) (u ++ (mark m p ∷ v)) (h a b)
 
 unfoldable mutual
-  pub read_neg : ℕ → Reader CondAst
-  read_neg zero = refuse
-  read_neg (suc n) = (neg_of n (rule IsNeg (read_neg n)) (rule IsCond (read_cond n))).reads
+  pub read_tied : {A : Type 0} → Operators A → ℕ → ℕ → Reader A
+  read_tied o level zero = refuse
+  read_tied o zero (suc n) = chosen o.before (λ h words. and_then (read_tied o 0 n words) (λ a. pure (h a)))
+      (ahead_at (m.Sign sg.LeftParen) (λ at words. and_then (read_tied o 2 n words) (λ inner words. and_then (expect (m.Sign sg.RightParen) words) (λ _. pure (o.placed at inner)))) (o.plain n).reads)
+  read_tied o (suc level) (suc n) = λ words. and_then (read_tied o level n words) (tied_behind o level n)
 
-  pub read_conj : ℕ → Reader CondAst
-  read_conj zero = refuse
-  read_conj (suc n) = (rule IsNeg (read_neg n) >>= λ first. rule (AndMore first) (conj_behind n first)).reads
+  pub tied_behind : {A : Type 0} → Operators A → ℕ → ℕ → A → Reader A
+  tied_behind o level zero left = refuse
+  tied_behind o level (suc n) left = chosen (between_parts o level) (λ h words. and_then (read_tied o level n words) (λ right. tied_behind o level n (h left right))) (pure left)
 
-  pub conj_behind : ℕ → CondAst → Reader CondAst
-  conj_behind zero left = refuse
-  conj_behind (suc n) left = ((do key kw.And; right ← rule IsNeg (read_neg n); rule (AndMore (cond_of.And left right)) (conj_behind n (cond_of.And left right))) or gives left).reads
+-- cond = conj { OR conj }, conj = neg { AND neg }, neg = NOT neg | "(" cond ")" | predicate
+abbrev pub conditions : Operators CondAst
+conditions = record {
+  plain = predicate;
+  placed = λ at a. a;
+  before = (m.Keyword kw.Not, cond_of.Not) ∷ [];
+  tight = (m.Keyword kw.And, cond_of.And) ∷ [];
+  loose = (m.Keyword kw.Or, cond_of.Or) ∷ [];
+}
 
-  pub read_cond : ℕ → Reader CondAst
-  read_cond zero = refuse
-  read_cond (suc n) = (rule IsConj (read_conj n) >>= λ first. rule (OrMore first) (cond_behind n first)).reads
-
-  pub cond_behind : ℕ → CondAst → Reader CondAst
-  cond_behind zero left = refuse
-  cond_behind (suc n) left = ((do key kw.Or; right ← rule IsConj (read_conj n); rule (OrMore (cond_of.Or left right)) (cond_behind n (cond_of.Or left right))) or gives left).reads
+abbrev pub IsCond : Language CondAst
+IsCond = Tied conditions 2
 
 abbrev pub condition : ℕ → Grammar CondAst
-condition n = rule IsCond (read_cond n)
+condition n = rule IsCond (read_tied conditions 2 n)
 
--- ---- expressions
+-- expr = term { ( "+" | "-" ) term }, term = factor { "*" factor }, factor = "(" expr ")" | operand
+abbrev pub expressions : Operators ExprAst
+expressions = record {
+  plain = λ _. operand giving simple;
+  placed = λ at a. placed a at;
+  before = [];
+  tight = (m.Sign sg.Star, product) ∷ [];
+  loose = (m.Sign sg.Plus, sum) ∷ (m.Sign sg.Minus, difference) ∷ [];
+}
 
-mutual
-  -- factor = literal | column | "(" expr ")"
-  pub data IsFactor : List Lexeme → ExprAst → Type 0 where
-    plain : (a : OperandAst) {u : List Lexeme} → operand.gives u a → IsFactor u (simple a)
-    parens : (p q : ℕ) {u : List Lexeme} {a : ExprAst} → IsExpr u a → IsFactor (sign sg.LeftParen p ∷ (u ++ (sign sg.RightParen q ∷ []))) (placed a p)
-
-  -- term = factor { "*" factor }, grouped from the left
-  pub data IsTerm : List Lexeme → ExprAst → Type 0 where
-    term : {u v : List Lexeme} {a b : ExprAst} → IsFactor u a → TimesMore a v b → IsTerm (u ++ v) b
-
-  pub data TimesMore : ExprAst → List Lexeme → ExprAst → Type 0 where
-    times_done : {a : ExprAst} → TimesMore a [] a
-    times_more : (p : ℕ) {u v : List Lexeme} {a b c : ExprAst} → IsFactor u b → TimesMore (product a b) v c → TimesMore a (sign sg.Star p ∷ (u ++ v)) c
-
-  -- expr = term { ( "+" | "-" ) term }, grouped from the left
-  pub data IsExpr : List Lexeme → ExprAst → Type 0 where
-    expr : {u v : List Lexeme} {a b : ExprAst} → IsTerm u a → PlusMore a v b → IsExpr (u ++ v) b
-
-  pub data PlusMore : ExprAst → List Lexeme → ExprAst → Type 0 where
-    plus_done : {a : ExprAst} → PlusMore a [] a
-    plus_more : (p : ℕ) {u v : List Lexeme} {a b c : ExprAst} → IsTerm u b → PlusMore (sum a b) v c → PlusMore a (sign sg.Plus p ∷ (u ++ v)) c
-    minus_more : (p : ℕ) {u v : List Lexeme} {a b c : ExprAst} → IsTerm u b → PlusMore (difference a b) v c → PlusMore a (sign sg.Minus p ∷ (u ++ v)) c
-
-abbrev pub factor_of : Grammar ExprAst → Grammar ExprAst
-factor_of whole = (do at ← punct sg.LeftParen; inner ← whole; punct sg.RightParen; gives (placed inner at)) or (operand giving simple)
-
-unfoldable mutual
-  pub read_factor : ℕ → Reader ExprAst
-  read_factor zero = refuse
-  read_factor (suc n) = (factor_of (rule IsExpr (read_expr n))).reads
-
-  pub read_term : ℕ → Reader ExprAst
-  read_term zero = refuse
-  read_term (suc n) = (rule IsFactor (read_factor n) >>= λ first. rule (TimesMore first) (term_behind n first)).reads
-
-  pub term_behind : ℕ → ExprAst → Reader ExprAst
-  term_behind zero left = refuse
-  term_behind (suc n) left = ((do punct sg.Star; right ← rule IsFactor (read_factor n); rule (TimesMore (product left right)) (term_behind n (product left right))) or gives left).reads
-
-  pub read_expr : ℕ → Reader ExprAst
-  read_expr zero = refuse
-  read_expr (suc n) = (rule IsTerm (read_term n) >>= λ first. rule (PlusMore first) (expr_behind n first)).reads
-
-  pub expr_behind : ℕ → ExprAst → Reader ExprAst
-  expr_behind zero left = refuse
-  expr_behind (suc n) left = (
-      (do punct sg.Plus; right ← rule IsTerm (read_term n); rule (PlusMore (sum left right)) (expr_behind n (sum left right)))
-      or (do punct sg.Minus; right ← rule IsTerm (read_term n); rule (PlusMore (difference left right)) (expr_behind n (difference left right)))
-      or gives left).reads
+abbrev pub IsExpr : Language ExprAst
+IsExpr = Tied expressions 2
 
 abbrev pub expression : ℕ → Grammar ExprAst
-expression n = rule IsExpr (read_expr n)
+expression n = rule IsExpr (read_tied expressions 2 n)
 
 -- ---- SELECT
 

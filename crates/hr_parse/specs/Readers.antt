@@ -82,6 +82,11 @@ ahead_at m f g = λ words. if sees m words then f (place words) (drop 1 words) e
 abbrev pub ahead : {A : Type 0} → Mark → Reader A → Reader A → Reader A
 ahead m f g = ahead_at m (λ _. f) g
 
+-- by the first word: one of these marks and what it leads to, or something else
+abbrev pub chosen : {A B : Type 0} → List (Mark × B) → (B → Reader A) → Reader A → Reader A
+chosen [] f g = g
+chosen (x ∷ rest) f g = ahead x.0 (f x.1) (chosen rest f g)
+
 abbrev pub is_name : Word → Bool
 is_name (w.Name n) = true
 is_name _ = false

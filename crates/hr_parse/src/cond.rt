@@ -104,9 +104,9 @@ impl<'a> Parser<'a> {
 
     /// `neg = NOT neg | "(" cond ")" | operand check`
     #[cycle(cond)]
-    #[tactic(auto, unfolding(crate::specs::Grammar::read_neg))]
+    #[tactic(auto, unfolding(crate::specs::Grammar::read_tied))]
     fn neg(&mut self, depth: usize) -> Result<Boxed<CondAst>, Stop>
-        ensures { Reads (spec.read_neg depth self.old.rest.now) result self.new.rest.now }
+        ensures { Reads (spec.read_tied spec.conditions 0 depth self.old.rest.now) result self.new.rest.now }
     {
         let depth = deeper(depth)?;
         if self.eat(Mark::Keyword(Keyword::Not)) {
@@ -123,9 +123,9 @@ impl<'a> Parser<'a> {
 
     /// `conj = neg { AND neg }`
     #[cycle(cond)]
-    #[tactic(auto, unfolding(crate::specs::Grammar::read_neg))]
+    #[tactic(auto, unfolding(crate::specs::Grammar::read_tied))]
     fn conj(&mut self, depth: usize) -> Result<Boxed<CondAst>, Stop>
-        ensures { Reads (spec.read_conj depth self.old.rest.now) result self.new.rest.now }
+        ensures { Reads (spec.read_tied spec.conditions 1 depth self.old.rest.now) result self.new.rest.now }
     {
         let depth = deeper(depth)?;
         let mut left = self.neg(depth)?;
@@ -140,9 +140,9 @@ impl<'a> Parser<'a> {
 
     /// `cond = conj { OR conj }`
     #[cycle(cond)]
-    #[tactic(auto, unfolding(crate::specs::Grammar::read_neg))]
+    #[tactic(auto, unfolding(crate::specs::Grammar::read_tied))]
     fn boxed_cond(&mut self, depth: usize) -> Result<Boxed<CondAst>, Stop>
-        ensures { Reads (spec.read_cond depth self.old.rest.now) result self.new.rest.now }
+        ensures { Reads (spec.read_tied spec.conditions 2 depth self.old.rest.now) result self.new.rest.now }
     {
         let depth = deeper(depth)?;
         let mut left = self.conj(depth)?;
@@ -157,7 +157,7 @@ impl<'a> Parser<'a> {
 
     /// A condition.
     pub fn cond(&mut self, depth: usize) -> Result<CondAst, Stop>
-        ensures { Reads (spec.read_cond depth self.old.rest.now) result self.new.rest.now }
+        ensures { Reads (spec.read_tied spec.conditions 2 depth self.old.rest.now) result self.new.rest.now }
     {
         Ok(self.boxed_cond(depth)?.into_inner())
     }

@@ -65,9 +65,9 @@ fn simple(alloc: Global, operand: OperandAst) -> Result<Boxed<ExprAst>, AllocErr
 impl<'a> Parser<'a> {
     /// `factor = literal | column | "(" expr ")"`
     #[cycle(terms)]
-    #[tactic(auto, unfolding(crate::specs::Grammar::read_factor))]
+    #[tactic(auto, unfolding(crate::specs::Grammar::read_tied))]
     fn factor(&mut self, depth: usize) -> Result<Boxed<ExprAst>, Stop>
-        ensures { Reads (spec.read_factor depth self.old.rest.now) result self.new.rest.now }
+        ensures { Reads (spec.read_tied spec.expressions 0 depth self.old.rest.now) result self.new.rest.now }
     {
         let depth = deeper(depth)?;
         if let Some(at) = self.eat_at(Mark::Sign(Sign::LeftParen)) {
@@ -82,9 +82,9 @@ impl<'a> Parser<'a> {
 
     /// `term = factor { "*" factor }`
     #[cycle(terms)]
-    #[tactic(auto, unfolding(crate::specs::Grammar::read_factor))]
+    #[tactic(auto, unfolding(crate::specs::Grammar::read_tied))]
     fn term(&mut self, depth: usize) -> Result<Boxed<ExprAst>, Stop>
-        ensures { Reads (spec.read_term depth self.old.rest.now) result self.new.rest.now }
+        ensures { Reads (spec.read_tied spec.expressions 1 depth self.old.rest.now) result self.new.rest.now }
     {
         let depth = deeper(depth)?;
         let mut left = self.factor(depth)?;
@@ -99,9 +99,9 @@ impl<'a> Parser<'a> {
 
     /// `expr = term { ( "+" | "-" ) term }`
     #[cycle(terms)]
-    #[tactic(auto, unfolding(crate::specs::Grammar::read_factor))]
+    #[tactic(auto, unfolding(crate::specs::Grammar::read_tied))]
     fn boxed_expr(&mut self, depth: usize) -> Result<Boxed<ExprAst>, Stop>
-        ensures { Reads (spec.read_expr depth self.old.rest.now) result self.new.rest.now }
+        ensures { Reads (spec.read_tied spec.expressions 2 depth self.old.rest.now) result self.new.rest.now }
     {
         let depth = deeper(depth)?;
         let mut left = self.term(depth)?;
@@ -122,7 +122,7 @@ impl<'a> Parser<'a> {
 
     /// An expression.
     pub fn expr(&mut self, depth: usize) -> Result<ExprAst, Stop>
-        ensures { Reads (spec.read_expr depth self.old.rest.now) result self.new.rest.now }
+        ensures { Reads (spec.read_tied spec.expressions 2 depth self.old.rest.now) result self.new.rest.now }
     {
         Ok(self.boxed_expr(depth)?.into_inner())
     }

@@ -9,6 +9,7 @@ pub mod ValidWords
 pub mod Folds
 pub mod Printed
 pub mod PrintedParts
+pub mod PrintedTied
 pub mod PrintedChecks
 pub mod PrintedConds
 pub mod PrintedExprs

@@ -1,5 +1,5 @@
 -- Tests of a condition, as they are printed.
-use Rattle.std.proofs.Common.{◌≡◌, ℕ, suc, ◌+◌, Bool, true, false, List, [], ◌∷◌, ◌++◌, map, codes, refl, sym, ◌∙◌, ap, subst, arith}
+use Rattle.std.proofs.Common.{◌≡◌, ℕ, ◌+◌, Bool, true, false, List, [], ◌∷◌, ◌++◌, map, codes, refl, sym, ◌∙◌, ap, subst, arith}
 use Rattle.hr_rel.specs.declared.expr.Op.{Op}
 use Rattle.hr_rel.specs.declared.expr.Op.TheVariants as op
 use Rattle.hr_parse.specs.declared.ast.CondAst.{CondAst}
@@ -12,14 +12,14 @@ use Rattle.hr_parse.specs.declared.word.Sign.TheVariants as sg
 use Rattle.hr_parse.specs.declared.word.Word.TheVariants as w
 use Rattle.hr_parse.specs.declared.word.Lexeme.{Lexeme}
 use Rattle.hr_parse.specs.Words.{mark, same_mark}
-use Rattle.hr_parse.specs.Grammar.{IsMark, IsCompare, Gives, Seq, Map, Either, Listed, literal, operand, between, among, nullity, range_or_list, check, predicate, IsNeg}
+use Rattle.hr_parse.specs.Grammar.{IsMark, IsCompare, Gives, Seq, Map, Either, Listed, literal, operand, between, among, nullity, range_or_list, check, predicate, Tied, conditions}
 use Rattle.hr_print.specs.Print.{joined, literal_text, operand_text, op_text, is_text, between_text, in_text, cond_text}
 use Rattle.hr_print.specs.Places.{bare_literal, bare_operand, bare_cond}
-use Rattle.hr_print.proofs.Spelled.{Ends, says_before}
-use Rattle.hr_print.proofs.SaidSigns.{said_left, said_right}
+use Rattle.hr_print.proofs.Spelled.{Ends}
 use Rattle.hr_print.proofs.SaidWords.{said_and, said_not, said_is, said_null, said_between, said_in}
 use Rattle.hr_print.proofs.Folds.{compare_shown, is_null_shown, between_shown, among_shown, compare_bare, is_null_bare, between_bare, among_bare}
 use Rattle.hr_print.proofs.Printed.{Printed, Like, The, Both, Valid, fixed, pair, change, ap_two, count, count_both, valid_left, valid_right}
+use Rattle.hr_print.proofs.PrintedTied.{Invariable, Enclosed, printed_enclosed}
 use Rattle.hr_print.proofs.PrintedParts.{before_blank, between_blanks, op_said, printed_operand, printed_literal, printed_list}
 
 -- ---- what stands behind the left operand of a test
@@ -94,17 +94,6 @@ unfolding check nullity range_or_list between among
 not_between_again left low high us p (Both.both (The.the o) (Both.both (The.the q) (Both.both l (Both.both (The.the r) k)))) h =
     (λ x. cond_of.Between x p.1.1.0 p.1.1.1.1 true, λ x. Either.in_right (Either.in_right (Either.in_left (Seq.seq (IsMark.the o) (Either.in_left (Seq.seq (IsMark.the q) (Seq.seq l (Seq.seq (IsMark.the r) (Map.map k)))))))), λ x e. same_between true left low high x p.1.1.0 p.1.1.1.1 e h.1.1.0 h.1.1.1.1)
 
--- ( list )
-abbrev pub Enclosed : {A : Type 0} → (List Lexeme → A → Type 0) → List Lexeme → ℕ × (A × ℕ) → Type 0
-Enclosed L = Both (The (w.Fixed (m.Sign sg.LeftParen))) (Both L (The (w.Fixed (m.Sign sg.RightParen))))
-
-pub printed_enclosed : {A : Type 0} {t : List ℕ} {L : List Lexeme → A → Type 0} {E : A → Type 0} {n : ℕ} → Printed Ends t L E n
-    → Printed Ends (codes "(" ++ (t ++ codes ")")) (Enclosed L) (λ p. Unit {0} × (E p.1.0 × Unit {0})) (suc n)
-unfolding same_mark
-printed_enclosed {t} h =
-    change (pair (fixed (w.Fixed (m.Sign sg.LeftParen)) said_left) (pair h (fixed {F = Ends} (w.Fixed (m.Sign sg.RightParen)) (says_before (codes ")") _ said_right)) (λ r e. refl)) (λ r e. tt))
-    (λ us p r e. (p, r, e)) (omega arith)
-
 among_again : (left : OperandAst) (list : List LiteralAst) (us : List Lexeme) (p : ℕ × (ℕ × (List LiteralAst × ℕ))) → Both (The (w.Fixed (m.Keyword kw.In))) (Enclosed (Listed literal.gives)) us p
     → (Unit {0} × (Unit {0} × (Like (map bare_literal) list p.1.1.0 × Unit {0}))) → (f : OperandAst → CondAst) × Behind us f × SameTest left (cond_of.Among left list false) f
 unfolding check nullity range_or_list between among
@@ -172,21 +161,16 @@ printed_check left s c (Either.in_right (Either.in_right (Either.in_left (Seq.se
     }
 
 test_again : (left : OperandAst) (a : CondAst) (us : List Lexeme) (p : OperandAst × (OperandAst → CondAst)) → Both operand.gives Behind us p → (Like bare_operand left p.0 × SameTest left a p.1)
-    → (b : CondAst) × IsNeg us b × Like bare_cond a b
+    → (b : CondAst) × Tied conditions 0 us b × Like bare_cond a b
 unfolding predicate
-test_again left a us p (Both.both l k) h = (p.1 p.0, IsNeg.test (Seq.seq l (k p.0)), h.1 p.0 h.0)
+test_again left a us p (Both.both l k) h = (p.1 p.0, Tied.plain (Seq.seq l (k p.0)), h.1 p.0 h.0)
 
--- a test has one text, however tightly its place binds
-pub record Tested (a : CondAst) (n : ℕ) : Type 0 where
-  pub same : (least : ℕ) → cond_text a least ≡ cond_text a 2
-  pub printed : Printed Ends (cond_text a 2) IsNeg (Like bare_cond a) n
-
-pub printed_test : (u v : List Lexeme) (left : OperandAst) (a : CondAst) → operand.gives u left → (check 0 left).gives v a → Valid (u ++ v) → Tested a (count (u ++ v))
+pub printed_test : (u v : List Lexeme) (left : OperandAst) (a : CondAst) → operand.gives u left → (check 0 left).gives v a → Valid (u ++ v) → Invariable conditions cond_text bare_cond a (count (u ++ v))
 printed_test u v left a l k h =
     let c = printed_check left v a k (valid_right u v h) in
     let all : count (u ++ v) ≡ count u + count v = count_both u v in
     record {
       same = λ least. c.same least ∙ sym (c.same 2);
-      printed = subst (λ z. Printed Ends z IsNeg (Like bare_cond a) (count (u ++ v))) (sym (c.same 2))
+      printed = subst (λ z. Printed Ends z (Tied conditions 0) (Like bare_cond a) (count (u ++ v))) (sym (c.same 2))
           (change (pair (printed_operand u left l (valid_left u v h)) c.printed c.apart) (test_again left a) (omega (arith, all)));
     }

@@ -41,7 +41,7 @@ use Rattle.hr_print.proofs.SaidWords.{said_select, said_from, said_join, said_on
 use Rattle.hr_print.proofs.Folds.{four, five, seven}
 use Rattle.hr_print.proofs.Printed.{Printed, Like, The, Both, Valid, fixed, pair, change, nothing, spaced, retext, ap_two, count, count_both, valid_left, valid_right}
 use Rattle.hr_print.proofs.PrintedParts.{before_blank, between_blanks, op_said, some_again, printed_name, printed_column, printed_literal, printed_list}
-use Rattle.hr_print.proofs.PrintedChecks.{Enclosed, printed_enclosed}
+use Rattle.hr_print.proofs.PrintedTied.{Enclosed, printed_enclosed}
 use Rattle.hr_print.proofs.PrintedConds.{cond_printed}
 use Rattle.hr_print.proofs.PrintedExprs.{expr_printed}
 

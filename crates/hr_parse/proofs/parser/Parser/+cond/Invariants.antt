@@ -1,5 +1,5 @@
 use Rattle.std.proofs.Common.{◌≡◌, ◌<◌, suc}
-use Rattle.hr_parse.specs.Grammar.{conj_behind, cond_behind}
+use Rattle.hr_parse.specs.Grammar.{conditions, tied_behind}
 use Rattle.hr_parse.proofs.parser.Parser.+cond.Given as goal
 
 abbrev pub decreases-boxed_cond : goal.decreases-boxed_cond
@@ -13,13 +13,13 @@ decreases-neg l = l.depth
 
 -- what is read behind the condition so far is what is read behind the first
 abbrev pub invariant-boxed_cond-ors : goal.invariant-boxed_cond-ors
-invariant-boxed_cond-ors l = (l.turns < l.fn.depth) × (cond_behind (suc l.turns) l.left l.self.rest.now ≡ cond_behind (suc l.initial.turns) l.initial.left l.initial.self.rest.now)
+invariant-boxed_cond-ors l = (l.turns < l.fn.depth) × (tied_behind conditions 1 (suc l.turns) l.left l.self.rest.now ≡ tied_behind conditions 1 (suc l.initial.turns) l.initial.left l.initial.self.rest.now)
 
 abbrev pub decreases-boxed_cond-ors : goal.decreases-boxed_cond-ors
 decreases-boxed_cond-ors l = l.turns
 
 abbrev pub invariant-conj-ands : goal.invariant-conj-ands
-invariant-conj-ands l = (l.turns < l.fn.depth) × (conj_behind (suc l.turns) l.left l.self.rest.now ≡ conj_behind (suc l.initial.turns) l.initial.left l.initial.self.rest.now)
+invariant-conj-ands l = (l.turns < l.fn.depth) × (tied_behind conditions 0 (suc l.turns) l.left l.self.rest.now ≡ tied_behind conditions 0 (suc l.initial.turns) l.initial.left l.initial.self.rest.now)
 
 abbrev pub decreases-conj-ands : goal.decreases-conj-ands
 decreases-conj-ands l = l.turns
