@@ -5,7 +5,7 @@ use Rattle.std.specs.Option.{option_map}
 use Rattle.std.specs.List.{position_or_len}
 use Rattle.indexmap.specs.IndexMap.{set_value_at}
 use Rattle.hr_progress.specs.declared.attempt.Attempt.{Attempt}
-use Rattle.hr_progress.specs.Plain.{PlainAttempt, plain_attempt, plain_entry, with_entry}
+use Rattle.hr_progress.specs.Plain.{PlainAttempt, key, plain_attempt, plain_entry, with_entry}
 use Rattle.hr_progress.proofs.Parts.{lookup_map}
 
 -- the i-th entry is the first of transaction t
@@ -62,3 +62,7 @@ is_none (Some x) h = absurd (wrong h)
   where
     wrong : true ≡ false → ⊥
     wrong d = cc
+
+pub keys_plain : (es : List (ℕ × Attempt)) → map key (map plain_entry es) ≡ map (λ (e : ℕ × Attempt). e.0) es
+keys_plain [] = refl
+keys_plain (e ∷ es) = ap (λ ks. e.0 ∷ ks) (keys_plain es)

@@ -18,3 +18,5 @@ pub mod Rests
 pub mod Txns
 pub mod Words
 pub mod Stamps
+pub mod Waiting
+pub mod Compared

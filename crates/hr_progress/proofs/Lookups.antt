@@ -1,14 +1,15 @@
 -- Look-ups in the lists of the code.
-use Rattle.std.proofs.Common.{◌≡◌, ℕ, zero, suc, ◌+◌, ◌-◌, ◌<◌, ◌≤◌, Bool, true, false, Some, None, unwrap_or, List, [], ◌∷◌, ◌++◌, map, length, slice_get, slice_set, slice_index_or, get_or, vec_capacity, cond, Result, Ok, Err, OnErr, refl, ap, sym, ◌∙◌, subst, arith}
+use Rattle.std.proofs.Common.{◌≡◌, ℕ, zero, suc, ◌+◌, ◌-◌, ◌<◌, ◌≤◌, Bool, true, false, Some, None, unwrap_or, List, [], ◌∷◌, ◌++◌, map, length, slice_get, slice_set, slice_index_or, get_or, cond, Result, Ok, Err, OnErr, refl, ap, sym, ◌∙◌, subst, arith}
 use Rattle.std.specs.Prelude.{take_while}
 use Rattle.std.specs.Option.{option_map}
 use Rattle.std.proofs.lemmas.List.Sums.{take_while-cons}
 use Rattle.std.proofs.lemmas.Option.{slice_get_read, slice_get_past}
-use Rattle.hr_base.specs.Lists.{numbered}
+use Rattle.hr_base.specs.Lists.{numbered, last_of}
+use Rattle.hr_base.specs.declared.limits.TheConstants.{MAX_STATEMENTS}
 use Rattle.hr_progress.specs.declared.txn.TxnState.{TxnState}
 use Rattle.hr_progress.specs.declared.progress.Progress.{Progress}
 use Rattle.hr_progress.specs.Plain.{no_txn, idle_progress, plain_txn, plain_txn_in, plain_progress, plain_replica_in}
-use Rattle.hr_progress.specs.Kept.{HaveGivenRoom}
+use Rattle.hr_progress.specs.Kept.{HasGivenRoom, HaveGivenRoom}
 use Rattle.hr_progress.proofs.Parts.{got_map}
 
 pub on_err : {T E P : Type 0} (r : Result T E) → P → OnErr r P
@@ -29,12 +30,12 @@ set_same view [] i x y h at same = absurd (omega (arith, h))
 set_same view (z ∷ xs) zero x y h at same = ap (λ w. w ∷ map view xs) (same ∙ ap view at)
 set_same view (z ∷ xs) (suc i) x y h at same = ap (λ ws. view z ∷ ws) (set_same view xs i x y (omega (arith, h)) at same)
 
-pub room_at : (xs : List TxnState) (i : ℕ) (x : TxnState) → i < length xs → x ≡ slice_index_or xs i x → HaveGivenRoom xs → x.statements ≤ vec_capacity x.given
+pub room_at : (xs : List TxnState) (i : ℕ) (x : TxnState) → i < length xs → x ≡ slice_index_or xs i x → HaveGivenRoom xs → HasGivenRoom x
 room_at [] i x h at room = absurd (omega (arith, h))
-room_at (z ∷ xs) zero x h at room = subst (λ (w : TxnState). w.statements ≤ vec_capacity w.given) (sym at) room.0
+room_at (z ∷ xs) zero x h at room = subst HasGivenRoom (sym at) room.0
 room_at (z ∷ xs) (suc i) x h at room = room_at xs i x (omega (arith, h)) at room.1
 
-pub room_set : (xs : List TxnState) (i : ℕ) (y : TxnState) → y.statements ≤ vec_capacity y.given → HaveGivenRoom xs → HaveGivenRoom (slice_set xs i y)
+pub room_set : (xs : List TxnState) (i : ℕ) (y : TxnState) → HasGivenRoom y → HaveGivenRoom xs → HaveGivenRoom (slice_set xs i y)
 room_set [] i y h room = room
 room_set (z ∷ xs) zero y h room = (h, room.1)
 room_set (z ∷ xs) (suc i) y h room = (room.0, room_set xs i y h room.1)
@@ -92,7 +93,7 @@ module _ (p : ℕ → Bool) where
       let r = rest_of y xs n h in
       omega (arith, passing y xs r.0, front_all xs n r.1 (omega (arith, e)))
 
-pub room_more : (xs : List TxnState) (y : TxnState) → y.statements ≤ vec_capacity y.given → HaveGivenRoom xs → HaveGivenRoom (xs ++ y ∷ [])
+pub room_more : (xs : List TxnState) (y : TxnState) → HasGivenRoom y → HaveGivenRoom xs → HaveGivenRoom (xs ++ y ∷ [])
 room_more [] y h room = (h, tt)
 room_more (x ∷ xs) y h room = (room.0, room_more xs y h room.1)
 
@@ -103,3 +104,18 @@ replica_found qs r x h at = ap (λ o. unwrap_or o idle_progress) (got_map plain_
 
 pub replica_missing : (qs : List Progress) (r : ℕ) → length qs ≤ r → plain_replica_in (map plain_progress qs) r ≡ idle_progress
 replica_missing qs r h = ap (λ o. unwrap_or o idle_progress) (got_map plain_progress qs r ∙ ap (option_map plain_progress) (slice_get_past qs r h))
+
+pub few_statements : (xs : List TxnState) (t : ℕ) → HaveGivenRoom xs → (plain_txn_in (map plain_txn xs) t).statements ≤ MAX_STATEMENTS
+few_statements xs zero room = omega arith
+few_statements [] (suc n) room = omega arith
+few_statements (x ∷ xs) (suc zero) room = room.0.1
+few_statements (x ∷ xs) (suc (suc n)) room = few_statements xs (suc n) room.1
+
+-- the last one of a list
+pub last_got : {X : Type 0} (xs : List X) → slice_get xs (length xs - 1) ≡ last_of xs
+last_got [] = refl
+last_got (x ∷ []) = refl
+last_got (x ∷ y ∷ xs) =
+    let here : suc (suc (length xs)) - 1 ≡ suc (length xs) = omega arith in
+    let there : length xs ≡ suc (length xs) - 1 = omega arith in
+    ap (slice_get (x ∷ y ∷ xs)) here ∙ ap (slice_get (y ∷ xs)) there ∙ last_got (y ∷ xs)

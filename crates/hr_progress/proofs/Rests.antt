@@ -33,7 +33,7 @@ answer_or_wait (Some (run.Deadlock x)) a w = never a refl
 answer_or_wait (Some run.Lost) a w = never a refl
 answer_or_wait (Some run.NoMemory) a w = never a refl
 
-le_or : (a b : ℕ) → (b ≤ a → ⊥) → a < b
+pub le_or : (a b : ℕ) → (b ≤ a → ⊥) → a < b
 le_or a b h = by (nat_lt a b) refl
   where
     by : (c : Bool) → nat_lt a b ≡ c → a < b
@@ -76,7 +76,7 @@ and_if : (a b : Bool) → (a ≡ true → b ≡ true) → a ≡ (a && b)
 and_if true b h = sym (h refl)
 and_if false b h = refl
 
-first_of : (a b : Bool) → (a && b) ≡ true → a ≡ true
+pub first_of : (a b : Bool) → (a && b) ≡ true → a ≡ true
 first_of true b h = refl
 first_of false b h = h
 
@@ -96,7 +96,7 @@ module _ (p : PlainView) (places : ArePlaces p) where
     runs_seen u = ap (λ (x : Attempt). not (is_empty x.answers)) (attempt_seen p r u) ∙ ap not (empty_map _ (plain_attempt_in entries u).answers)
 
     module _ (place : ℕ) (waits : is_wait (slice_get p.replies place) ≡ true) where
-      newest : place + 1 ≡ length p.replies → (u : ℕ) → runs_in (seen_plain p) r u ≡ runs_since entries place u
+      pub newest : place + 1 ≡ length p.replies → (u : ℕ) → runs_in (seen_plain p) r u ≡ runs_since entries place u
       newest e u =
           let told = told_at p.replies entries (places.told r) u in
           runs_seen u ∙ and_if (not (is_empty (plain_attempt_in entries u).answers)) (nat_lt (plain_attempt_in entries u).began place)

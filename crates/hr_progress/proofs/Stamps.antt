@@ -1,5 +1,5 @@
 -- The stamps of given answers.
-use Rattle.std.proofs.Common.{◌≡◌, ℕ, zero, suc, Option, Some, None, List, map, slice_get, refl, ap, sym, ◌∙◌}
+use Rattle.std.proofs.Common.{◌≡◌, ℕ, Option, Some, None, List, map, refl, ap, ◌∙◌}
 use Rattle.std.specs.Option.{option_map}
 use Rattle.hr_base.specs.Lists.{numbered}
 use Rattle.hr_engine.specs.declared.reply.RunReply.{RunReply}

@@ -1,16 +1,17 @@
 -- What is kept beside the record is what the record tells.
-use Rattle.std.proofs.Common.{◌≡◌, ℕ, ◌||◌, ◌==◌, filter, length, ap, sym, ◌∙◌}
+use Rattle.std.proofs.Common.{◌≡◌, ℕ, ◌||◌, ◌==◌, filter, length, map, ap, sym, ◌∙◌}
 use Rattle.std.proofs.lemmas.List.{length-map}
 use Rattle.hr_base.specs.Lists.{one_to}
 use Rattle.hr_history.specs.Transactions.{is_open}
-use Rattle.hr_history.specs.View.{TxnState, Attempt}
+use Rattle.hr_history.specs.View.{TxnState, Progress, Attempt}
 use Rattle.hr_history.specs.Processed.{phase_in, attempt_in, is_logged_by, processed_in}
-use Rattle.hr_moves.specs.Kept.{open_in, touched_in}
+use Rattle.hr_moves.specs.Kept.{open_in, touched_in, entries_in}
 use Rattle.hr_progress.specs.declared.attempt.Told.{Told}
-use Rattle.hr_progress.specs.Plain.{PlainView, plain_attempt_in, plain_replica_in}
+use Rattle.hr_progress.specs.Plain.{PlainView, key, plain_attempt_in, plain_replica_in}
 use Rattle.hr_progress.specs.Seen.{answer_at, seen_txn, seen_plain}
 use Rattle.hr_progress.specs.Kept.{opened_of, touched_of, processed_of}
 use Rattle.hr_progress.proofs.Numbers.{filter_same_test, take_while_agree}
+use Rattle.hr_progress.proofs.Attempts.{keys_seen}
 use Rattle.hr_progress.proofs.Parts.{txn_seen, replica_seen, attempt_seen}
 
 module _ (p : PlainView) where
@@ -34,3 +35,9 @@ module _ (p : PlainView) where
     pub processed_seen : processed_of p.txns p.log (plain_replica_in p.replicas r).position (plain_replica_in p.replicas r).attempts ≡ processed_in (seen_plain p) r
     processed_seen = ap length (take_while_agree _ _ p.log (λ t h. λ i.
         is_logged_by (sym (replica_seen p r) i).position (sym (txn_seen p t) i).phase || (sym (answers_seen t) i == (sym (txn_seen p t) i).statements)))
+
+    pub entries_seen : entries_in (seen_plain p) r ≡ map key (plain_replica_in p.replicas r).attempts
+    entries_seen = ap (λ (x : Progress). map (λ (e : ℕ × Attempt). e.0) x.attempts) (replica_seen p r) ∙ keys_seen p.replies p.fresh r (plain_replica_in p.replicas r).attempts (plain_replica_in p.replicas r).attempts
+
+    pub entries_count : length (entries_in (seen_plain p) r) ≡ length (plain_replica_in p.replicas r).attempts
+    entries_count = ap length entries_seen ∙ length-map (plain_replica_in p.replicas r).attempts key

@@ -2,6 +2,7 @@
 use Rattle.std.specs.Prelude.{◌≡◌, ℕ, ◌+◌, ◌<◌, ◌≤◌, Bool, true, false, ◌||◌, ◌==◌, Option, Some, List, [], ◌∷◌, filter, length, slice_get, take_while, IsTrue}
 use Rattle.std.specs.Prelude.{vec_len, vec_capacity}
 use Rattle.hr_base.specs.Lists.{is_empty, one_to}
+use Rattle.hr_base.specs.declared.limits.TheConstants.{MAX_STATEMENTS}
 use Rattle.hr_engine.specs.declared.reply.RunReply.{RunReply}
 use Rattle.hr_engine.specs.declared.reply.RunReply.TheVariants as run
 use Rattle.hr_history.specs.Transactions.{is_open}
@@ -95,10 +96,13 @@ pub record ArePlaces (p : PlainView) : Type 0 where
   pub told : (r : ℕ) → AreTold p.replies (plain_replica_in p.replicas r).attempts
   pub given : (t : ℕ) → AreAnswers p.replies (given_places p.replies (plain_txn_in p.txns t).given)
 
--- each statement's answer has a place among the given ones
+-- a transaction doesn't have too many statements, and each one's answer has a place among the given ones
+abbrev pub HasGivenRoom : TxnState → Type 0
+HasGivenRoom t = (t.statements ≤ vec_capacity t.given) × (t.statements ≤ MAX_STATEMENTS)
+
 abbrev pub HaveGivenRoom : List TxnState → Type 0
 HaveGivenRoom [] = Unit {0}
-HaveGivenRoom (t ∷ ts) = (t.statements ≤ vec_capacity t.given) × HaveGivenRoom ts
+HaveGivenRoom (t ∷ ts) = HasGivenRoom t × HaveGivenRoom ts
 
 -- what a reply, and what follows from it, may add has its place already
 pub record HasRoom (v : Inside) : Type 0 where
@@ -106,6 +110,7 @@ pub record HasRoom (v : Inside) : Type 0 where
   pub given : HaveGivenRoom v.txns.items
 
 pub record IsWhole (v : Inside) : Type 0 where
+  pub few : v.f ≤ 3
   pub sane : IsSane (seen v)
   pub kept : IsKept (plain v)
   pub places : ArePlaces (plain v)

@@ -1,13 +1,14 @@
 -- Not to be believed: the fields of a `View` without where they lie in memory, of which its proofs speak.
-use Rattle.std.specs.Prelude.{ℕ, ◌+◌, Bool, true, false, ◌&&◌, ◌==◌, if◌then◌else◌, Option, None, List, [], ◌∷◌, map, nat_eq, slice_get, unwrap_or}
+use Rattle.std.specs.Prelude.{ℕ, ◌+◌, Bool, true, false, ◌&&◌, ◌==◌, if◌then◌else◌, Option, None, Some, List, [], ◌∷◌, ◌++◌, map, nat_eq, slice_get, unwrap_or}
 use Rattle.std.specs.Map.{lookup}
 use Rattle.hr_base.specs.Counters.{shown}
-use Rattle.hr_base.specs.Lists.{numbered}
+use Rattle.hr_base.specs.Lists.{is_empty, has, numbered}
 use Rattle.hr_engine.specs.declared.reply.RunReply.{RunReply}
 use Rattle.hr_history.specs.declared.job.Job.{Job}
 use Rattle.hr_history.specs.declared.phase.Phase.{Phase}
 use Rattle.hr_history.specs.declared.phase.Phase.TheVariants as phase
 use Rattle.hr_history.specs.declared.phase.Fresh.{Fresh}
+use Rattle.hr_moves.specs.Kept.{and_in_order, without}
 use Rattle.hr_progress.specs.declared.view.View.TheInside.{Inside}
 use Rattle.hr_progress.specs.declared.txn.TxnState.{TxnState}
 use Rattle.hr_progress.specs.declared.txn.Given.{Given}
@@ -138,3 +139,55 @@ with_restart count q = record q {
   doubt = false;
   out = None;
 }
+
+-- one answer more, which stands at a place among the replies; the newest of these has place n
+abbrev pub to_answered : Told → ℕ → PlainAttempt → PlainAttempt
+to_answered told n a = record a { answers = a.answers ++ told ∷ []; began = if is_empty a.answers then n else a.began; last = None; touched = true }
+
+-- the reply at a place told it of waits
+abbrev pub to_waiting : ℕ → PlainAttempt → PlainAttempt
+to_waiting place a = record a { last = Some place; touched = true }
+
+-- as if it had never begun
+abbrev pub to_idle : PlainAttempt → PlainAttempt
+to_idle a = idle_attempt
+
+abbrev pub with_answered : ℕ → Told → ℕ → PlainProgress → PlainProgress
+with_answered t told n q = record q { out = None; attempts = with_entry t (to_answered told n) q.attempts; touched = and_in_order t q.touched }
+
+abbrev pub with_waiting : ℕ → ℕ → PlainProgress → PlainProgress
+with_waiting t place q = record q { out = None; attempts = with_entry t (to_waiting place) q.attempts; touched = and_in_order t q.touched }
+
+-- lost, perhaps with a commit in doubt
+abbrev pub with_loss : Bool → PlainProgress → PlainProgress
+with_loss in_doubt q = record q { lost = true; doubt = in_doubt; out = None; attempts = map (λ (e : ℕ × PlainAttempt). (e.0, idle_attempt)) q.attempts; touched = [] }
+
+-- a transaction ended
+abbrev pub with_ended : ℕ → PlainProgress → PlainProgress
+with_ended t q = record q { out = None; attempts = with_entry t to_idle q.attempts; touched = without t q.touched }
+
+-- and is committed
+abbrev pub with_commit : ℕ → PlainProgress → PlainProgress
+with_commit t q = record (with_ended t q) { position = q.position + 1 }
+
+-- no job is out
+abbrev pub to_free : PlainProgress → PlainProgress
+to_free q = record q { out = None }
+
+-- an answer more is given
+abbrev pub to_given : Given → PlainTxn → PlainTxn
+to_given g t = record t { given = t.given ++ g ∷ [] }
+
+-- the transaction of an entry
+abbrev pub key : ℕ × PlainAttempt → ℕ
+key e = e.0
+
+-- a transaction has an entry
+abbrev pub and_entry : ℕ → List (ℕ × PlainAttempt) → List (ℕ × PlainAttempt)
+and_entry t es = if has (map key es) t then es else es ++ (t, idle_attempt) ∷ []
+
+abbrev pub with_run_entry : ℕ → PlainProgress → PlainProgress
+with_run_entry t q = record q { attempts = and_entry t q.attempts }
+
+abbrev pub with_out : Job → PlainProgress → PlainProgress
+with_out j q = record q { out = Some j }

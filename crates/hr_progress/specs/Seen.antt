@@ -17,6 +17,10 @@ use Rattle.hr_progress.specs.declared.txn.Given.{Given}
 use Rattle.hr_progress.specs.declared.attempt.Told.{Told}
 use Rattle.hr_progress.specs.Plain.{PlainTxn, PlainAttempt, PlainProgress, PlainView, plain, plain_attempt_in}
 
+abbrev pub done_in : Option RunReply → Option Answer
+done_in (Some (run.Done answer)) = Some answer
+done_in _ = None
+
 abbrev pub answer_in : Option RunReply → Answer
 answer_in (Some (run.Done answer)) = answer
 answer_in _ = Count 0

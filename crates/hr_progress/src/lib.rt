@@ -6,10 +6,12 @@
 //! have something to roll back at each replica, and how far each has processed the log.
 #![tactic(auto)]
 
+mod answers;
 mod attempt;
 mod progress;
 mod txn;
 mod view;
+mod waits;
 
 pub use hr_history::{Fresh, Job, Last, Phase};
 pub use view::View;

@@ -1,11 +1,15 @@
 //! A replica, as the view keeps it.
-ghost use Rattle.std.specs.Prelude.{◌≡◌, ◌+◌, ◌^◌, ◌<◌, ◌≤◌, length, map, replicate, slice_index, IfOk, IsTrue};
+ghost use Rattle.std.specs.Prelude.{◌≡◌, ◌+◌, ◌^◌, ◌<◌, ◌≤◌, length, map, nat_eq, option_copied, position, slice_get, replicate, slice_index, IfOk, IsTrue};
+ghost use Rattle.std.specs.Map.{lookup};
+ghost use Rattle.std.specs.Option.{option_map};
+ghost use Rattle.std.specs.List.{list_any, list_all};
 ghost use Rattle.hr_history.specs.Processed as history;
 ghost use Rattle.hr_moves.specs.Changes.{map_from, change_at};
-ghost use Rattle.hr_progress.specs.Plain.{plain_txn, plain_entry, plain_progress, plain_attempt_in, plain_replica_in, idle_progress, to_convicted, with_preempted, with_restart};
+ghost use Rattle.hr_progress.specs.Plain.{key, plain_txn, plain_entry, plain_attempt, plain_progress, plain_attempt_in, plain_replica_in, idle_progress, to_convicted, with_preempted, with_restart};
+ghost use Rattle.hr_progress.specs.Seen as seen;
 ghost use Rattle.hr_progress.specs.Kept.{is_processed_at, processed_of, recounted, restarted, IsLeast, NoneLess};
 
-use crate::attempt::{Attempt, answered, preempt};
+use crate::attempt::{Attempt, Told, answered, preempt};
 use crate::txn::{TxnState, phase_of, statements_of};
 use hr_engine::TxnId;
 use hr_history::{Job, Phase};
@@ -244,5 +248,110 @@ pub fn answered_at(replicas: &[Progress], replica: u32, txn: TxnId) -> usize
     match replicas.get(replica as usize) {
         Some(progress) => answered(&progress.attempts, txn),
         None => 0,
+    }
+}
+
+/// The attempt of a transaction at a replica, where it has an entry there.
+pub fn attempt_at(replicas: &[Progress], replica: u32, txn: TxnId) -> Option<&Attempt>
+    ensures { option_map plain_attempt (option_copied result) ≡ lookup (nat_eq txn) (plain_replica_in (map plain_progress replicas.now) replica).attempts }
+{
+    match replicas.get(replica as usize) {
+        Some(progress) => progress.attempts.get(&txn),
+        None => None,
+    }
+}
+
+/// The answers of a transaction's attempt at a replica.
+pub fn answers_at(replicas: &[Progress], replica: u32, txn: TxnId) -> &[Told]
+    ensures { result.now ≡ (plain_attempt_in (plain_replica_in (map plain_progress replicas.now) replica).attempts txn).answers }
+{
+    match attempt_at(replicas, replica, txn) {
+        Some(attempt) => &attempt.answers,
+        None => &[],
+    }
+}
+
+/// The place among the replies of the last one to a transaction at a replica that told of waits, where no answer came
+/// after it.
+pub fn last_at(replicas: &[Progress], replica: u32, txn: TxnId) -> Option<usize>
+    ensures { result ≡ (plain_attempt_in (plain_replica_in (map plain_progress replicas.now) replica).attempts txn).last }
+{
+    match attempt_at(replicas, replica, txn) {
+        Some(attempt) => attempt.last,
+        None => None,
+    }
+}
+
+/// Whether a transaction runs at a replica, and began to before this place among the replies.
+pub fn runs_since(replicas: &[Progress], replica: u32, place: usize, txn: TxnId) -> bool
+    ensures { result ≡ seen.runs_since (plain_replica_in (map plain_progress replicas.now) replica).attempts place txn }
+{
+    match attempt_at(replicas, replica, txn) {
+        Some(attempt) => !attempt.answers.is_empty() && attempt.began < place,
+        None => false,
+    }
+}
+
+/// Whether one of these runs at a replica, and began to before this place among the replies.
+pub fn any_runs_since(replicas: &[Progress], replica: u32, place: usize, txns: &[TxnId]) -> bool
+    ensures { result ≡ list_any (seen.runs_since (plain_replica_in (map plain_progress replicas.now) replica).attempts place) txns.now }
+{
+    'txns: for txn in txns {
+        if runs_since(replicas, replica, place, *txn) {
+            return true;
+        }
+    }
+    false
+}
+
+/// Whether each of these runs at a replica, and began to before this place among the replies.
+pub fn all_run_since(replicas: &[Progress], replica: u32, place: usize, txns: &[TxnId]) -> bool
+    ensures { result ≡ list_all (seen.runs_since (plain_replica_in (map plain_progress replicas.now) replica).attempts place) txns.now }
+{
+    'txns: for txn in txns {
+        if !runs_since(replicas, replica, place, *txn) {
+            return false;
+        }
+    }
+    true
+}
+
+/// How many transactions have an entry at a replica.
+pub fn entry_count(replicas: &[Progress], replica: u32) -> usize
+    ensures { result ≡ length (plain_replica_in (map plain_progress replicas.now) replica).attempts }
+{
+    match replicas.get(replica as usize) {
+        Some(progress) => progress.attempts.len(),
+        None => 0,
+    }
+}
+
+/// The transaction whose entry at a replica has this place.
+pub fn entry_at(replicas: &[Progress], replica: u32, place: usize) -> Option<TxnId>
+    ensures { result ≡ slice_get (map key (plain_replica_in (map plain_progress replicas.now) replica).attempts) place }
+{
+    match replicas.get(replica as usize) {
+        Some(progress) => key_at(&progress.attempts, place),
+        None => None,
+    }
+}
+
+// The transaction whose entry has this place.
+fn key_at(attempts: &IndexMap<TxnId, Attempt>, place: usize) -> Option<TxnId>
+    ensures { result ≡ slice_get (map key (map plain_entry attempts.now.entries)) place }
+{
+    match attempts.get_index(place) {
+        Some((txn, _)) => Some(*txn),
+        None => None,
+    }
+}
+
+/// The place of a transaction's entry at a replica.
+pub fn entry_place(replicas: &[Progress], replica: u32, txn: TxnId) -> Option<usize>
+    ensures { result ≡ position (nat_eq txn) (map key (plain_replica_in (map plain_progress replicas.now) replica).attempts) }
+{
+    match replicas.get(replica as usize) {
+        Some(progress) => progress.attempts.get_index_of(&txn),
+        None => None,
     }
 }

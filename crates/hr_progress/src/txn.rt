@@ -1,5 +1,5 @@
 //! A transaction, as the view keeps it.
-ghost use Rattle.std.specs.Prelude.{◌≡◌, ◌≤◌, ◌<◌, ◌==◌, not, [], ◌∷◌, ◌++◌, length, filter, map, vec_len, OnOk, OnErr, IsTrue};
+ghost use Rattle.std.specs.Prelude.{◌≡◌, ◌≤◌, ◌<◌, ◌==◌, not, [], ◌∷◌, ◌++◌, length, filter, map, slice_get, vec_len, OnOk, OnErr, IsTrue};
 ghost use Rattle.std.specs.Option.{option_map};
 ghost use Rattle.hr_base.specs.Lists.{has, numbered};
 ghost use Rattle.hr_progress.specs.declared.txn.Given.{Given};
@@ -65,6 +65,16 @@ pub fn stamp_at(given: &[Given], index: u32) -> Option<u64>
         return None;
     }
     match given.get((index - 1) as usize) {
+        Some(given) => Some(given.stamp),
+        None => None,
+    }
+}
+
+/// The length of the log when the answer to the statement after so many was given, if it was.
+pub fn stamp_after(given: &[Given], answers: usize) -> Option<u64>
+    ensures { result ≡ option_map (λ (g : Given). g.stamp) (slice_get given.now answers) }
+{
+    match given.get(answers) {
         Some(given) => Some(given.stamp),
         None => None,
     }

@@ -4,8 +4,11 @@ ghost use Rattle.hr_history.specs.View.{view_of};
 ghost use Rattle.hr_moves.specs.Sane.{IsSane};
 
 mod calls;
+mod comparisons;
+mod entries;
 mod follows;
 mod reads;
+mod standing;
 
 use crate::progress::{Progress, idle_replicas};
 use crate::txn::TxnState;

@@ -1,7 +1,8 @@
 //! What a view tells, as its record does.
-ghost use Rattle.std.specs.Prelude.{◌≡◌, ◌+◌, ◌*◌, length, map};
+ghost use Rattle.std.specs.Prelude.{◌≡◌, ◌≤◌, ◌+◌, ◌*◌, length, map};
 ghost use Rattle.std.specs.Option.{option_map};
 ghost use Rattle.hr_base.specs.Lists.{numbered};
+ghost use Rattle.hr_base.specs.declared.limits.TheConstants.{MAX_STATEMENTS};
 ghost use Rattle.hr_history.specs.Given.{Given};
 ghost use Rattle.hr_history.specs.Processed as history;
 ghost use Rattle.hr_history.specs.Processed.{txn_in, phase_in, replica_in, answers_in, runs_in, processed_in, live_in, attempt_in};
@@ -18,7 +19,7 @@ use crate::progress::{
 use crate::txn::{given_of, phase_of, stamp_at, statements_of};
 use crate::view::View;
 use hr_engine::TxnId;
-use hr_history::{Job, Phase};
+use hr_history::{Fresh, Job, Phase};
 use indexmap::IndexMap;
 
 impl View {
@@ -96,7 +97,8 @@ impl View {
 
     /// How many statements of a transaction were submitted.
     pub fn statements(&self, txn: TxnId) -> u32
-        ensures { result ≡ (txn_in self.now txn).statements }
+        ensures value { result ≡ (txn_in self.now txn).statements }
+        ensures few { result ≤ MAX_STATEMENTS }
     {
         statements_of(&self.txns, txn)
     }
@@ -142,6 +144,21 @@ impl View {
         ensures { result ≡ ranks_before self.now a b }
     {
         is_before(self.phase(a), a, self.phase(b), b)
+    }
+
+    /// How many replicas may lie: there are 2f + 1.
+    pub fn f(&self) -> u32
+        ensures value { result ≡ self.now.f }
+        ensures few { self.now.f ≤ 3 }
+    {
+        self.f
+    }
+
+    /// The run that the turn's call replied to, if it did.
+    pub fn fresh(&self) -> Option<Fresh>
+        ensures { result ≡ self.now.fresh }
+    {
+        self.fresh
     }
 
     /// How many replicas there are.

@@ -1,4 +1,4 @@
-use Rattle.std.proofs.Common.{◌-◌, Option, refl, length, sym, ap, ◌∙◌}
+use Rattle.std.proofs.Common.{◌-◌, refl, length, sym, ap, ◌∙◌}
 use Rattle.std.specs.Option.{option_map}
 use Rattle.std.proofs.lemmas.Option.{slice_get_read, slice_get_past}
 use Rattle.hr_progress.specs.declared.txn.Given.{Given}

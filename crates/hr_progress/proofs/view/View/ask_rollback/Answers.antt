@@ -33,6 +33,7 @@ invariant_of-self c =
     let opened = opened_plain (plain c.self.inside) c.args.txn (subst (λ (v : View). IsOpen v c.args.txn) (sym c.self.view_is) c.requires) in
     let shut = closed (plain c.self.inside) c.self.invariant.sane in
     record {
+      few = c.self.invariant.few;
       sane = subst IsSane (sym (after c)) (sane_after c.args.self.now 0 0 (event.AskRollback c.args.txn) (subst IsSane c.self.view_is c.self.invariant.sane) c.requires);
       kept = subst IsKept (sym (moved c)) (kept_end p c.args.txn (to_phase phase.RolledBack) opened shut record { opened = c.self.invariant.kept.opened; counted = c.self.invariant.kept.counted } refl);
       places = subst ArePlaces (sym (moved c)) (places_end p c.args.txn (to_phase phase.RolledBack) (λ x. refl) record { told = c.self.invariant.places.told; given = c.self.invariant.places.given });

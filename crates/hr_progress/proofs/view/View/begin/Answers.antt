@@ -43,6 +43,7 @@ invariant_of-self-2 c =
     let kept = kept_begun p c.args.session c.self.invariant.sane c.self.invariant.kept in
     let places = places_begun p c.args.session c.self.invariant.places in
     record {
+      few = c.self.invariant.few;
       sane = subst IsSane (sym (after c)) (sane_after c.args.self.now 0 0 (event.Begin c.args.session (length c.args.self.now.txns + 1)) (subst IsSane c.self.view_is c.self.invariant.sane) refl);
       kept = subst IsKept (sym (moved c)) record { opened = kept.opened; counted = kept.counted };
       places = subst ArePlaces (sym (moved c)) record { told = places.told; given = places.given };

@@ -36,6 +36,7 @@ invariant_of-self c =
     let kept = kept_change p c.args.replica to_convicted c.self.invariant.kept (λ counted. record { touched = counted.touched; processed = counted.processed }) in
     let places = places_change p c.args.replica to_convicted c.self.invariant.places (λ told. told) in
     record {
+      few = c.self.invariant.few;
       sane = subst IsSane (sym (after c)) (sane_after c.args.self.now 0 0 (event.Convict c.args.replica (evidence.BadDeadlock 0)) (subst IsSane c.self.view_is c.self.invariant.sane) c.requires);
       kept = subst IsKept (sym (moved c)) record { opened = kept.opened; counted = kept.counted };
       places = subst ArePlaces (sym (moved c)) record { told = places.told; given = places.given };

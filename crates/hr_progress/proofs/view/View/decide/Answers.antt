@@ -64,6 +64,7 @@ invariant_of-self c =
     let opened = opened_plain p c.args.txn (subst (λ (v : View). IsOpen v c.args.txn) (sym c.self.view_is) c.requires) in
     let shut = closed p c.self.invariant.sane in
     record {
+      few = c.self.invariant.few;
       sane = subst IsSane (sym (after c)) (sane_after c.args.self.now 0 0 (event.Decide c.args.txn) (subst IsSane c.self.view_is c.self.invariant.sane) c.requires);
       kept = subst IsKept (sym (moved c)) (kept_decided p c.args.txn opened shut c.self.invariant.kept);
       places = subst ArePlaces (sym (moved c)) (places_decided p c.args.txn c.self.invariant.places);

@@ -15,6 +15,7 @@ returns c = ap seen_plain (made c) ∙ seen_first c.args.f
 
 pub invariant_of-result : goal.invariant_of-result
 invariant_of-result c = record {
+  few = c.requires.few;
   sane = subst (λ (p : PlainView). IsSane (seen_plain p)) (sym (made c)) (subst IsSane (sym (seen_first c.args.f)) (first_sane c.args.f));
   kept = subst IsKept (sym (made c)) (kept_first c.args.f);
   places = subst ArePlaces (sym (made c)) (places_first c.args.f);

@@ -11,6 +11,7 @@ returns c = λ place asks. ap (λ v. after_new_primary v c.args.replica) c.self.
 
 pub invariant_of-self : goal.invariant_of-self
 invariant_of-self c = record {
+  few = c.self.invariant.few;
   sane = subst IsSane (sym (ap (λ v. after_new_primary v c.args.replica) c.self.view_is)) (sane_after c.args.self.now 0 0 (event.NewPrimary c.args.replica) (subst IsSane c.self.view_is c.self.invariant.sane) (c.requires.known, c.requires.live));
   kept = record { opened = c.self.invariant.kept.opened; counted = c.self.invariant.kept.counted };
   places = record { told = c.self.invariant.places.told; given = c.self.invariant.places.given };

@@ -38,6 +38,7 @@ invariant_of-self c =
     let p = plain c.self.inside in
     let q = plain_replica_in p.replicas c.args.replica in
     record {
+      few = c.self.invariant.few;
       sane = subst IsSane (sym (after c)) (sane_after c.args.self.now 0 0 (event.Preempt c.args.replica c.args.txn) (subst IsSane c.self.view_is c.self.invariant.sane) (c.requires.known, c.requires.touched));
       kept = subst IsKept (sym (moved c)) (kept_change p c.args.replica (with_preempted c.args.txn) c.self.invariant.kept (counted_preempted c.args.txn p.txns p.log q));
       places = subst ArePlaces (sym (moved c)) (places_change p c.args.replica (with_preempted c.args.txn) c.self.invariant.places (told_preempted c.args.txn p.replies q));

@@ -30,6 +30,7 @@ invariant_of-self c =
     let sane = c.self.invariant.sane in
     let opened = subst (λ (v : View). IsOpen v c.args.txn) (sym c.self.view_is) c.requires in
     record {
+      few = c.self.invariant.few;
       sane = subst IsSane (sym (after c)) (sane_after c.args.self.now 0 0 (event.Refuse c.args.txn (cause.PrimaryMemory 0)) (subst IsSane c.self.view_is c.self.invariant.sane) c.requires);
       kept = subst IsKept (sym (moved c)) (kept_end p c.args.txn (to_phase phase.Refused) (opened_plain p c.args.txn opened) (closed p sane) c.self.invariant.kept refl);
       places = subst ArePlaces (sym (moved c)) (places_end p c.args.txn (to_phase phase.Refused) (λ x. refl) c.self.invariant.places);

@@ -53,6 +53,7 @@ invariant_of-self c =
     let p : PlainView = record (plain c.self.inside) { fresh = None } in
     let q = plain_replica_in p.replicas c.args.replica in
     record {
+      few = c.self.invariant.few;
       sane = subst IsSane (sym (after c)) (sane_after c.args.self.now 0 0 (event.Restarted c.args.replica c.args.count) (subst IsSane c.self.view_is c.self.invariant.sane) (c.requires.known, c.requires.out));
       kept = subst IsKept (sym (moved c)) (kept_change p c.args.replica (restarted p.txns p.log c.args.count) record { opened = c.self.invariant.kept.opened; counted = c.self.invariant.kept.counted } (counted_restarted p.txns p.log c.args.count q));
       places = subst ArePlaces (sym (moved c)) (places_change p c.args.replica (restarted p.txns p.log c.args.count) record { told = c.self.invariant.places.told; given = c.self.invariant.places.given } (λ told. told));

@@ -2,7 +2,7 @@ use Rattle.std.proofs.Common.{List, map, sym, ap, ◌∙◌}
 use Rattle.std.specs.Option.{option_map}
 use Rattle.hr_base.specs.Lists.{numbered}
 use Rattle.hr_history.specs.Given as history
-use Rattle.hr_history.specs.View.{View, TxnState}
+use Rattle.hr_history.specs.View.{TxnState}
 use Rattle.hr_history.specs.Processed.{txn_in}
 use Rattle.hr_progress.specs.declared.txn.Given.{Given}
 use Rattle.hr_progress.specs.declared.txn.TxnState as code
