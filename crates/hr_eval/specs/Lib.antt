@@ -2,3 +2,5 @@ pub mod Tuples
 pub mod Numbers
 pub mod SoFar
 pub mod Tallies
+pub mod Groups
+pub mod Answerings

@@ -54,7 +54,7 @@ impl Tally {
         self.shown()
     }
 
-    fn shown(&self) -> Result<Value, RunError>
+    pub fn shown(&self) -> Result<Value, RunError>
         ensures { result ≡ tally_shown self.now }
     {
         match self {
@@ -67,7 +67,7 @@ impl Tally {
 }
 
 // The item's tally with one row or pair more. A tally that isn't the item's stays as it is.
-fn tallied(tally: &Tally, item: &Item, tuple: Tuple) -> Result<Tally, AllocError>
+pub fn tallied(tally: &Tally, item: &Item, tuple: Tuple) -> Result<Tally, AllocError>
     ensures { IfOk result (λ next. next ≡ tally_step (rows_in tuple.entry) item.now tally.now) }
 {
     match (item, tally) {
