@@ -4,6 +4,8 @@ use Rattle.std.specs.Fmt.{signed_decimal}
 use Rattle.hr_base.specs.Texts.{doubled}
 use Rattle.hr_rel.specs.declared.expr.Op.{Op}
 use Rattle.hr_rel.specs.declared.expr.Op.TheVariants as op
+use Rattle.hr_print.specs.declared.parts.Level.{Level}
+use Rattle.hr_print.specs.declared.parts.Level.TheVariants as level
 use Rattle.hr_parse.specs.declared.ast.Ast.{Ast}
 use Rattle.hr_parse.specs.declared.ast.SelectAst.{SelectAst}
 use Rattle.hr_parse.specs.declared.ast.InsertAst.{InsertAst}
@@ -84,6 +86,11 @@ op_text op.Gt = codes " > "
 op_text op.Ge = codes " >= "
 
 -- ---- conditions: parentheses stand where a part binds less tightly than its place asks, 0 for OR, 1 for AND, 2 for NOT
+
+abbrev pub rank : Level → ℕ
+rank level.Loose = 0
+rank level.Tight = 1
+rank level.Part = 2
 
 abbrev pub is_text : Bool → List ℕ
 is_text true = codes " IS NOT NULL"

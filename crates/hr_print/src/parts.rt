@@ -1,6 +1,6 @@
 //! The texts of the parts that statements are made of.
 
-ghost use Rattle.std.specs.Prelude.{◌≡◌, ◌∷◌, [], ◌++◌, map, codes, OnOk};
+ghost use Rattle.std.specs.Prelude.{◌≡◌, ◌∷◌, [], ◌++◌, map, codes, nat_lt, OnOk};
 ghost use Rattle.hr_base.specs.Texts.{doubled};
 ghost use Rattle.hr_print.specs.Print as spec;
 
@@ -196,29 +196,56 @@ fn put_not(out: &mut Vec<u8>) -> Result<(), AllocError>
     put(out, b"NOT ")
 }
 
-/// A condition that binds at least so tightly: 0 as OR, 1 as AND, 2 as NOT and tests.
+/// What a tree's place asks of it: operators that bind less tightly stand in parentheses there.
+#[derive(Clone, Copy)]
+pub enum Level {
+    /// Every operator may stand bare.
+    Loose,
+    /// Behind and before AND, or `*`: OR, `+` and `-` may not.
+    Tight,
+    /// A part of its own: no operator between parts may.
+    Part,
+}
+
+impl Level {
+    /// Whether OR, `+` and `-` need parentheses here.
+    fn parts_loose(self) -> bool
+        ensures { result ≡ nat_lt 0 (spec.rank self) }
+    {
+        !matches!(self, Level::Loose)
+    }
+
+    /// Whether AND and `*` do.
+    fn parts_tight(self) -> bool
+        ensures { result ≡ nat_lt 1 (spec.rank self) }
+    {
+        matches!(self, Level::Part)
+    }
+}
+
+/// A condition at a place that asks this.
 #[tactic(auto, using(crate::proofs::Appends::append_again))]
-pub fn cond(out: &mut Vec<u8>, whole: &CondAst, least: u8) -> Result<(), AllocError>
-    ensures { OnOk result (out.new.items ≡ out.old.items ++ spec.cond_text whole.now least) }
+pub fn cond(out: &mut Vec<u8>, whole: &CondAst, least: Level) -> Result<(), AllocError>
+    ensures { OnOk result (out.new.items ≡ out.old.items ++ spec.cond_text whole.now (spec.rank least)) }
 {
     match whole {
         CondAst::Or(left, right) => {
-            open(out, 0 < least)?;
-            cond(out, left.get(), 0)?;
+            open(out, least.parts_loose())?;
+            cond(out, left.get(), Level::Loose)?;
             put(out, b" OR ")?;
-            cond(out, right.get(), 1)?;
-            close(out, 0 < least)
+            cond(out, right.get(), Level::Tight)?;
+            close(out, least.parts_loose())
         }
         CondAst::And(left, right) => {
-            open(out, 1 < least)?;
-            cond(out, left.get(), 1)?;
+            open(out, least.parts_tight())?;
+            cond(out, left.get(), Level::Tight)?;
             put(out, b" AND ")?;
-            cond(out, right.get(), 2)?;
-            close(out, 1 < least)
+            cond(out, right.get(), Level::Part)?;
+            close(out, least.parts_tight())
         }
         CondAst::Not(inner) => {
             put_not(out)?;
-            cond(out, inner.get(), 2)
+            cond(out, inner.get(), Level::Part)
         }
         CondAst::Compare(op, left, right) => {
             operand(out, left.get())?;
@@ -257,34 +284,34 @@ pub fn cond(out: &mut Vec<u8>, whole: &CondAst, least: u8) -> Result<(), AllocEr
     }
 }
 
-/// An expression that binds at least so tightly: 0 as `+` and `-`, 1 as `*`, 2 as an operand.
+/// An expression at a place that asks this.
 #[tactic(auto, using(crate::proofs::Appends::append_again))]
-pub fn expr(out: &mut Vec<u8>, whole: &ExprAst, least: u8) -> Result<(), AllocError>
-    ensures { OnOk result (out.new.items ≡ out.old.items ++ spec.expr_text whole.now least) }
+pub fn expr(out: &mut Vec<u8>, whole: &ExprAst, least: Level) -> Result<(), AllocError>
+    ensures { OnOk result (out.new.items ≡ out.old.items ++ spec.expr_text whole.now (spec.rank least)) }
 {
     match &whole.kind {
         ExprKind::Literal(l) => literal(out, l.get()),
         ExprKind::Column(c) => column(out, c.get()),
         ExprKind::Add(left, right) => {
-            open(out, 0 < least)?;
-            expr(out, left.get(), 0)?;
+            open(out, least.parts_loose())?;
+            expr(out, left.get(), Level::Loose)?;
             put(out, b" + ")?;
-            expr(out, right.get(), 1)?;
-            close(out, 0 < least)
+            expr(out, right.get(), Level::Tight)?;
+            close(out, least.parts_loose())
         }
         ExprKind::Sub(left, right) => {
-            open(out, 0 < least)?;
-            expr(out, left.get(), 0)?;
+            open(out, least.parts_loose())?;
+            expr(out, left.get(), Level::Loose)?;
             put(out, b" - ")?;
-            expr(out, right.get(), 1)?;
-            close(out, 0 < least)
+            expr(out, right.get(), Level::Tight)?;
+            close(out, least.parts_loose())
         }
         ExprKind::Mul(left, right) => {
-            open(out, 1 < least)?;
-            expr(out, left.get(), 1)?;
+            open(out, least.parts_tight())?;
+            expr(out, left.get(), Level::Tight)?;
             put(out, b" * ")?;
-            expr(out, right.get(), 2)?;
-            close(out, 1 < least)
+            expr(out, right.get(), Level::Part)?;
+            close(out, least.parts_tight())
         }
     }
 }

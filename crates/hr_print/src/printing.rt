@@ -7,7 +7,7 @@ ghost use Rattle.hr_parse.specs.declared.ast.Ast.{Ast};
 ghost use Rattle.hr_print.specs.Canonical.{Alike, IsRead, parentheses};
 ghost use Rattle.hr_print.specs.Print as spec;
 
-use crate::parts::{Shown, column, cond, expr, joined, put};
+use crate::parts::{Level, Shown, column, cond, expr, joined, put};
 use hr_base::limits::MAX_SQL_BYTES;
 use hr_parse::{
     AggWord, Ast, ColumnAst, CondAst, DeleteAst, EntryAst, InsertAst, ItemAst, Items, JoinAst,
@@ -32,7 +32,7 @@ impl Shown for ItemAst {
     #[tactic(auto, using(crate::proofs::Appends::append_again))]
     fn show(&self, out: &mut Vec<u8>) -> Result<(), AllocError> {
         match self {
-            ItemAst::Plain(e) => expr(out, e, 0),
+            ItemAst::Plain(e) => expr(out, e, Level::Loose),
             ItemAst::CountAll(_) => put(out, b"COUNT(*)"),
             ItemAst::Aggregate {
                 word,
@@ -86,7 +86,7 @@ fn join(out: &mut Vec<u8>, join: &Option<JoinAst>) -> Result<(), AllocError>
             put(out, b" JOIN ")?;
             entry(out, &join.entry)?;
             put(out, b" ON ")?;
-            cond(out, &join.on, 0)
+            cond(out, &join.on, Level::Loose)
         }
         None => Ok(()),
     }
@@ -99,7 +99,7 @@ fn filter(out: &mut Vec<u8>, filter: &Option<CondAst>) -> Result<(), AllocError>
     match filter {
         Some(condition) => {
             put(out, b" WHERE ")?;
-            cond(out, condition, 0)
+            cond(out, condition, Level::Loose)
         }
         None => Ok(()),
     }
@@ -183,7 +183,7 @@ impl Shown for SetAst {
     fn show(&self, out: &mut Vec<u8>) -> Result<(), AllocError> {
         put(out, self.column.name.bytes())?;
         put(out, b" = ")?;
-        expr(out, &self.value, 0)
+        expr(out, &self.value, Level::Loose)
     }
 }
 
