@@ -1,3 +1,4 @@
+pub mod Firsts
 pub mod Searches
-pub mod Runs
-pub mod Preempts
+pub mod Repeats
+pub mod GiveWay

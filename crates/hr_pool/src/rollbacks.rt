@@ -29,7 +29,8 @@ fn first_to_stop(view: &View, replica: u32, txns: &[TxnId]) -> Option<TxnId>
     None
 }
 
-fn is_ended(phase: Phase) -> bool
+// Whether a phase is that of a transaction that was refused or rolled back.
+pub fn is_ended(phase: Phase) -> bool
     ensures { result ≡ history.is_ended phase }
 {
     match phase {

@@ -1,4 +1,4 @@
-use Rattle.hr_pool.proofs.Runs.{rollback_found, firsts_found, repeats_found}
+use Rattle.hr_pool.proofs.Repeats.{rollback_found, firsts_found, repeats_found}
 use Rattle.hr_pool.proofs.laws.jobs_are_found.Goals as goal
 
 pub returns-clause-rollback : goal.returns-clause-rollback

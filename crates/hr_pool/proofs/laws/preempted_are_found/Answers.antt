@@ -1,4 +1,4 @@
-use Rattle.hr_pool.proofs.Preempts.{preempts_found}
+use Rattle.hr_pool.proofs.GiveWay.{preempts_found}
 use Rattle.hr_pool.proofs.laws.preempted_are_found.Goals as goal
 
 pub returns : goal.returns

@@ -1,5 +1,5 @@
 -- Who has to give way, and for whom, has something to roll back.
-use Rattle.std.proofs.Common.{◌≡◌, ℕ, Bool, true, false, cond, not, ◌&&◌, ◌||◌, Some, option_and_then, List, [], ◌∷◌, find, refl, ap, sym, ◌∙◌}
+use Rattle.std.proofs.Common.{◌≡◌, ℕ, Bool, true, false, cond, not, ◌&&◌, ◌||◌, Some, None, option_and_then, List, [], ◌∷◌, find, refl, ap, sym, ◌∙◌}
 use Rattle.std.proofs.lemmas.Bool.{and_parts}
 use Rattle.hr_base.specs.Lists.{has, is_empty}
 use Rattle.hr_engine.specs.Waits.{if_all}
@@ -14,9 +14,13 @@ use Rattle.hr_moves.specs.Kept.{touched_in}
 use Rattle.hr_pool.specs.Searched.{gives_way_here, preempt_next}
 use Rattle.hr_pool.proofs.Searches.{wrong, find_within, any_within}
 
-find_agree : (p q : ℕ → Bool) → ((t : ℕ) → p t ≡ q t) → (xs : List ℕ) → find p xs ≡ find q xs
+pub find_agree : (p q : ℕ → Bool) → ((t : ℕ) → p t ≡ q t) → (xs : List ℕ) → find p xs ≡ find q xs
 find_agree p q same [] = refl
 find_agree p q same (x ∷ xs) = λ i. cond (same x i) (Some x) (find_agree p q same xs i)
+
+pub find_never : (p : ℕ → Bool) → ((t : ℕ) → p t ≡ false) → (xs : List ℕ) → find p xs ≡ None
+find_never p fails [] = refl
+find_never p fails (x ∷ xs) = ap (λ b. cond b (Some x) (find p xs)) (fails x) ∙ find_never p fails xs
 
 module _ (v : View) (r : ℕ) (sane : IsSane v) where
   abbrev touched : ℕ → Bool

@@ -1,0 +1,7 @@
+use Rattle.std.proofs.Common.{◌≡◌, drop}
+use Rattle.std.specs.List.{list_any}
+use Rattle.hr_history.specs.Preemption.{is_held_up}
+use Rattle.hr_pool.proofs.preemption.holds_up_one.Given as goal
+
+abbrev pub invariant-txns : goal.invariant-txns
+invariant-txns l = list_any (is_held_up l.view l.replica l.txn) (drop l.other-index l.txns) ≡ list_any (is_held_up l.view l.replica l.txn) l.txns
