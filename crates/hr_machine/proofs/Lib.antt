@@ -1,0 +1,3 @@
+pub mod InsertLaws
+pub mod MachineLaws
+pub mod UpdateLaws
