@@ -10,13 +10,14 @@ use hr_progress::View;
 
 /// The candidate: the first live replica from the one after the start of the search on, and round to that. None where every
 /// replica is lost or convicted.
-pub fn candidate(view: &View) -> Option<u64>
+pub fn candidate(view: &View) -> Option<u32>
     ensures { result ≡ candidate_in view.now }
 {
     // the search starts at a replica
     view.sane();
-    let next = view.search_after() as u64 + 1;
-    match first_live(view, next, view.replicas()) {
+    let end = 2 * view.f() + 1;
+    let next = view.search_after() + 1;
+    match first_live(view, next, end) {
         Some(replica) => Some(replica),
         None => first_live(view, 0, next),
     }
@@ -31,11 +32,11 @@ pub fn caught_up(view: &View, replica: u32) -> bool
 }
 
 // The first live one of the replicas from this one on, up to another and without that.
-fn first_live(view: &View, from: u64, to: u64) -> Option<u64>
+fn first_live(view: &View, from: u32, to: u32) -> Option<u32>
     ensures { result ≡ find (live_in view.now) (range_with_len from (to - from)) }
 {
     'replicas: for replica in from..to {
-        if view.is_live(replica) {
+        if view.is_live(replica as u64) {
             return Some(replica);
         }
     }
