@@ -1,0 +1,6 @@
+//! The text of an answer: its lines, with line feeds between them and none at the end.
+#![tactic(auto)]
+
+mod text;
+
+pub use text::write;
