@@ -29,7 +29,7 @@ keys_apart p r sane =
     let q = plain_replica_in p.replicas r in
     ap is_distinct (sym (ap (λ (x : Progress). map (λ (e : ℕ × Attempt). e.0) x.attempts) (replica_seen p r) ∙ keys_seen p.replies p.fresh r q.attempts q.attempts)) ∙ sane.apart r
 
-not_has : (ts : List ℕ) (t : ℕ) → not (has ts t) ≡ true → has ts t ≡ false
+pub not_has : (ts : List ℕ) (t : ℕ) → not (has ts t) ≡ true → has ts t ≡ false
 not_has ts t h = by (has ts t) h
   where
     by : (b : Bool) → not b ≡ true → b ≡ false

@@ -1,11 +1,13 @@
 -- Entries of a replica.
-use Rattle.std.proofs.Common.{◌≡◌, ℕ, zero, suc, ◌+◌, ◌<◌, Bool, true, false, nat_eq, not, cond, Option, Some, None, is_some, unwrap_or, List, [], ◌∷◌, map, length, slice_get, refl, ap, sym, ◌∙◌, arith}
+use Rattle.std.proofs.Common.{◌≡◌, ℕ, zero, suc, ◌+◌, ◌<◌, Bool, true, false, nat_eq, not, ◌||◌, ◌++◌, cond, Option, Some, None, is_some, unwrap_or, List, [], ◌∷◌, map, length, slice_get, refl, ap, sym, ◌∙◌, arith}
 use Rattle.std.specs.Map.{lookup}
 use Rattle.std.specs.Option.{option_map}
 use Rattle.std.specs.List.{position_or_len}
-use Rattle.indexmap.specs.IndexMap.{set_value_at}
+use Rattle.indexmap.specs.IndexMap.{set_value_at, insert_entry}
+use Rattle.hr_base.specs.Lists.{has}
+use Rattle.hr_base.proofs.Tests.{eq_turn, or_first, or_second}
 use Rattle.hr_progress.specs.declared.attempt.Attempt.{Attempt}
-use Rattle.hr_progress.specs.Plain.{PlainAttempt, key, plain_attempt, plain_entry, with_entry}
+use Rattle.hr_progress.specs.Plain.{PlainAttempt, key, idle_attempt, and_entry, plain_attempt, plain_entry, with_entry}
 use Rattle.hr_progress.proofs.Parts.{lookup_map}
 
 -- the i-th entry is the first of transaction t
@@ -66,3 +68,57 @@ is_none (Some x) h = absurd (wrong h)
 pub keys_plain : (es : List (ℕ × Attempt)) → map key (map plain_entry es) ≡ map (λ (e : ℕ × Attempt). e.0) es
 keys_plain [] = refl
 keys_plain (e ∷ es) = ap (λ ks. e.0 ∷ ks) (keys_plain es)
+
+-- an entry set to what is seen as before
+pub entry_same : (t : ℕ) (es : List (ℕ × PlainAttempt)) → with_entry t (λ a. a) es ≡ es
+entry_same t [] = refl
+entry_same t (e ∷ es) = by (nat_eq t e.0) (entry_same t es)
+  where
+    by : (b : Bool) → with_entry t (λ a. a) es ≡ es → cond b ((e.0, e.1) ∷ es) (e ∷ with_entry t (λ a. a) es) ≡ e ∷ es
+    by true rest = refl
+    by false rest = ap (λ xs. e ∷ xs) rest
+
+has_by : (b : Bool) (t : ℕ) (e : ℕ × Attempt) (es : List (ℕ × Attempt)) (x : Attempt) → nat_eq t e.0 ≡ b → (lookup (nat_eq t) es ≡ Some x → has (map key (map plain_entry es)) t ≡ true) → cond b (Some e.1) (lookup (nat_eq t) es) ≡ Some x → (nat_eq e.0 t || has (map key (map plain_entry es)) t) ≡ true
+has_by true t e es x same more found = or_first (nat_eq e.0 t) (has (map key (map plain_entry es)) t) (eq_turn e.0 t ∙ same)
+has_by false t e es x same more found = or_second (nat_eq e.0 t) (has (map key (map plain_entry es)) t) (more found)
+
+pub has_found : (t : ℕ) (es : List (ℕ × Attempt)) (x : Attempt) → lookup (nat_eq t) es ≡ Some x → has (map key (map plain_entry es)) t ≡ true
+has_found t [] x found = absurd (wrong found)
+  where
+    wrong : {a : Attempt} → None ≡ Some a → ⊥
+    wrong d = cc
+has_found t (e ∷ es) x found = has_by (nat_eq t e.0) t e es x refl (λ d. has_found t es x d) found
+
+missing_by : (b : Bool) (t : ℕ) (e : ℕ × Attempt) (es : List (ℕ × Attempt)) → nat_eq t e.0 ≡ b → (lookup (nat_eq t) es ≡ None → has (map key (map plain_entry es)) t ≡ false) → cond b (Some e.1) (lookup (nat_eq t) es) ≡ None → (nat_eq e.0 t || has (map key (map plain_entry es)) t) ≡ false
+missing_by true t e es same more found = absurd (wrong found)
+  where
+    wrong : {a : Attempt} → Some a ≡ None → ⊥
+    wrong d = cc
+missing_by false t e es same more found = ap (λ b. b || has (map key (map plain_entry es)) t) (eq_turn e.0 t ∙ same) ∙ more found
+
+pub has_missing : (t : ℕ) (es : List (ℕ × Attempt)) → lookup (nat_eq t) es ≡ None → has (map key (map plain_entry es)) t ≡ false
+has_missing t [] found = refl
+has_missing t (e ∷ es) found = missing_by (nat_eq t e.0) t e es refl (λ d. has_missing t es d) found
+
+insert_by : (b : Bool) (t : ℕ) (a : Attempt) (e : ℕ × Attempt) (es : List (ℕ × Attempt)) → (lookup (nat_eq t) es ≡ None → insert_entry nat_eq es t a ≡ es ++ (t, a) ∷ []) → cond b (Some e.1) (lookup (nat_eq t) es) ≡ None → cond b ((e.0, a) ∷ es) (e ∷ insert_entry nat_eq es t a) ≡ e ∷ es ++ (t, a) ∷ []
+insert_by true t a e es more found = absurd (wrong found)
+  where
+    wrong : {x : Attempt} → Some x ≡ None → ⊥
+    wrong d = cc
+insert_by false t a e es more found = ap (λ xs. e ∷ xs) (more found)
+
+-- a new entry is the last
+pub inserted_last : (t : ℕ) (a : Attempt) (es : List (ℕ × Attempt)) → lookup (nat_eq t) es ≡ None → insert_entry nat_eq es t a ≡ es ++ (t, a) ∷ []
+inserted_last t a [] found = refl
+inserted_last t a (e ∷ es) found = insert_by (nat_eq t e.0) t a e es (λ d. inserted_last t a es d) found
+
+pub plain_last : (es : List (ℕ × Attempt)) (e : ℕ × Attempt) → map plain_entry (es ++ e ∷ []) ≡ map plain_entry es ++ plain_entry e ∷ []
+plain_last [] e = refl
+plain_last (x ∷ es) e = ap (λ xs. plain_entry x ∷ xs) (plain_last es e)
+
+-- an entry where there is one, or none
+pub entry_there : (t : ℕ) (es : List (ℕ × PlainAttempt)) → has (map key es) t ≡ true → es ≡ and_entry t es
+entry_there t es h = sym (ap (λ b. cond b es (es ++ (t, idle_attempt) ∷ [])) h)
+
+pub entry_new : (t : ℕ) (es : List (ℕ × PlainAttempt)) → has (map key es) t ≡ false → es ++ (t, idle_attempt) ∷ [] ≡ and_entry t es
+entry_new t es h = sym (ap (λ b. cond b es (es ++ (t, idle_attempt) ∷ [])) h)

@@ -20,3 +20,8 @@ pub mod Words
 pub mod Stamps
 pub mod Waiting
 pub mod Compared
+pub mod Ready
+pub mod Rounds
+pub mod Replied
+pub mod Takes
+pub mod Attempted

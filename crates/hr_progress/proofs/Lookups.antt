@@ -1,5 +1,5 @@
 -- Look-ups in the lists of the code.
-use Rattle.std.proofs.Common.{◌≡◌, ℕ, zero, suc, ◌+◌, ◌-◌, ◌<◌, ◌≤◌, Bool, true, false, Some, None, unwrap_or, List, [], ◌∷◌, ◌++◌, map, length, slice_get, slice_set, slice_index_or, get_or, cond, Result, Ok, Err, OnErr, refl, ap, sym, ◌∙◌, subst, arith}
+use Rattle.std.proofs.Common.{◌≡◌, ℕ, zero, suc, ◌+◌, ◌-◌, ◌<◌, ◌≤◌, Bool, true, false, Some, None, unwrap_or, List, [], ◌∷◌, ◌++◌, map, length, slice_get, slice_set, slice_index_or, get_or, cond, Result, Ok, Err, OnOk, OnErr, refl, ap, sym, ◌∙◌, subst, arith}
 use Rattle.std.specs.Prelude.{take_while}
 use Rattle.std.specs.Option.{option_map}
 use Rattle.std.proofs.lemmas.List.Sums.{take_while-cons}
@@ -45,6 +45,10 @@ room_set (z ∷ xs) (suc i) y h room = (room.0, room_set xs i y h room.1)
 long_by : {X : Type 0} (b : Bool) (x : X) (ys : List X) (n : ℕ) → suc n ≤ length (cond b (x ∷ ys) []) → n ≤ length ys
 long_by true x ys n h = omega (arith, h)
 long_by false x ys n h = absurd (omega (arith, h))
+
+pub on_ok : {T E P : Type 0} (r : Result T E) → P → OnOk r P
+on_ok (Ok x) p = p
+on_ok (Err e) p = tt
 
 module _ (p : ℕ → Bool) where
   rest_of : (x : ℕ) (xs : List ℕ) (n : ℕ) → suc n ≤ length (take_while p (x ∷ xs)) → (p x ≡ true) × (n ≤ length (take_while p xs))

@@ -57,7 +57,7 @@ began_early replies began place a w newest = by (nat_eq began place) refl
         apart : began ≡ place → nat_eq began place ≡ false → ⊥
         apart same d = never (eq-eqb began place same) d
 
-idle_told : (replies : List RunReply) → IsTold replies idle_attempt
+pub idle_told : (replies : List RunReply) → IsTold replies idle_attempt
 idle_told replies = record { answers = tt; began = λ e. absurd (never refl e); last = λ place e. absurd (no_place e) }
   where
     no_place : {place : ℕ} → None ≡ Some place → ⊥

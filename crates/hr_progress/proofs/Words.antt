@@ -1,13 +1,14 @@
 -- What is kept beside the record is what the record tells.
-use Rattle.std.proofs.Common.{◌≡◌, ℕ, ◌||◌, ◌==◌, filter, length, map, ap, sym, ◌∙◌}
+use Rattle.std.proofs.Common.{◌≡◌, ℕ, not, ◌&&◌, ◌||◌, ◌==◌, filter, length, map, ap, sym, ◌∙◌}
 use Rattle.std.proofs.lemmas.List.{length-map}
 use Rattle.hr_base.specs.Lists.{one_to}
 use Rattle.hr_history.specs.Transactions.{is_open}
 use Rattle.hr_history.specs.View.{TxnState, Progress, Attempt}
-use Rattle.hr_history.specs.Processed.{phase_in, attempt_in, is_logged_by, processed_in}
+use Rattle.hr_history.specs.Processed.{live_in, candidate_in, phase_in, attempt_in, is_logged_by, processed_in}
+use Rattle.hr_history.specs.Primary.{candidate_after}
 use Rattle.hr_moves.specs.Kept.{open_in, touched_in, entries_in}
 use Rattle.hr_progress.specs.declared.attempt.Told.{Told}
-use Rattle.hr_progress.specs.Plain.{PlainView, key, plain_attempt_in, plain_replica_in}
+use Rattle.hr_progress.specs.Plain.{PlainView, key, live_of, plain_attempt_in, plain_replica_in}
 use Rattle.hr_progress.specs.Seen.{answer_at, seen_txn, seen_plain}
 use Rattle.hr_progress.specs.Kept.{opened_of, touched_of, processed_of}
 use Rattle.hr_progress.proofs.Numbers.{filter_same_test, take_while_agree}
@@ -22,6 +23,12 @@ module _ (p : PlainView) where
   opened_seen =
       filter_same_test _ _ (one_to (length p.txns)) (λ t. ap (λ (x : TxnState). is_open x.phase) (sym (txn_seen p t)))
       ∙ ap (filter (λ t. is_open (phase_in (seen_plain p) t))) numbers_seen
+
+  live_seen : (r : ℕ) → live_in (seen_plain p) r ≡ live_of p.replicas r
+  live_seen r = ap (λ (x : Progress). not x.lost && not x.convicted) (replica_seen p r)
+
+  pub candidate_seen : candidate_in (seen_plain p) ≡ candidate_after p.f (live_of p.replicas) p.search_after
+  candidate_seen = λ i. candidate_after p.f (λ r. live_seen r i) p.search_after
 
   module _ (r : ℕ) where
     pub touched_seen : touched_of (length p.txns) (plain_replica_in p.replicas r).attempts ≡ touched_in (seen_plain p) r

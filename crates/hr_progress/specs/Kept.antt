@@ -1,5 +1,5 @@
 -- Not to be believed: what holds of the fields of every `View`, of which its proofs speak.
-use Rattle.std.specs.Prelude.{◌≡◌, ℕ, ◌+◌, ◌<◌, ◌≤◌, Bool, true, false, ◌||◌, ◌==◌, Option, Some, List, [], ◌∷◌, filter, length, slice_get, take_while, IsTrue}
+use Rattle.std.specs.Prelude.{◌≡◌, ℕ, ◌+◌, ◌<◌, ◌≤◌, Bool, true, false, ◌||◌, ◌==◌, Option, Some, List, [], ◌∷◌, filter, length, slice_get, take_while, IsTrue, None, map, nat_eq, if◌then◌else◌}
 use Rattle.std.specs.Prelude.{vec_len, vec_capacity}
 use Rattle.hr_base.specs.Lists.{is_empty, one_to}
 use Rattle.hr_base.specs.declared.limits.TheConstants.{MAX_STATEMENTS}
@@ -11,9 +11,15 @@ use Rattle.hr_progress.specs.declared.view.View.TheInside.{Inside}
 use Rattle.hr_progress.specs.declared.txn.TxnState.{TxnState}
 use Rattle.hr_progress.specs.declared.txn.Given.{Given}
 use Rattle.hr_progress.specs.declared.attempt.Told.{Told}
+use Rattle.hr_progress.specs.declared.attempt.Attempt.{Attempt}
+use Rattle.hr_progress.specs.declared.progress.Progress.{Progress}
+use Rattle.hr_history.specs.declared.job.Job.{Job}
+use Rattle.hr_history.specs.declared.job.Job.TheVariants as job
+use Rattle.std.specs.Map.{lookup}
+use Rattle.hr_moves.specs.Kept.{before_it}
 use Rattle.hr_moves.specs.Sane.{IsSane}
 use Rattle.hr_progress.specs.Seen.{seen}
-use Rattle.hr_progress.specs.Plain.{PlainTxn, PlainAttempt, PlainProgress, PlainView, plain, plain_txn_in, plain_attempt_in, plain_replica_in, with_restart}
+use Rattle.hr_progress.specs.Plain.{PlainTxn, PlainAttempt, PlainProgress, PlainView, plain, plain_txn_in, plain_attempt_in, plain_replica_in, with_restart, plain_progress}
 
 abbrev pub is_answer : Option RunReply → Bool
 is_answer (Some (run.Done answer)) = true
@@ -104,10 +110,53 @@ abbrev pub HaveGivenRoom : List TxnState → Type 0
 HaveGivenRoom [] = Unit {0}
 HaveGivenRoom (t ∷ ts) = HasGivenRoom t × HaveGivenRoom ts
 
+abbrev pub is_run : Option Job → Bool
+is_run (Some (job.Run t i)) = true
+is_run _ = false
+
+abbrev pub is_run_of : ℕ → Option Job → Bool
+is_run_of t (Some (job.Run u i)) = u == t
+is_run_of t _ = false
+
+-- how many runs are out
+abbrev pub runs_out : List PlainProgress → ℕ
+runs_out [] = 0
+runs_out (q ∷ qs) = (if is_run q.out then 1 else 0) + runs_out qs
+
+-- one answer more has its place
+abbrev pub IsRoomy : Option Attempt → Type 0
+IsRoomy None = Unit {0}
+IsRoomy (Some a) = vec_len a.answers < vec_capacity a.answers
+
+abbrev pub HasAnswerRoom : ℕ → List (ℕ × Attempt) → Type 0
+HasAnswerRoom t es = IsRoomy (lookup (nat_eq t) es)
+
+-- while a run is out its answer has its place, and so has its transaction among those that have something to roll back
+abbrev pub IsReadyFor : Option Job → ℕ → ℕ → List (ℕ × Attempt) → Type 0
+IsReadyFor (Some (job.Run t i)) touched room es = (touched < room) × HasAnswerRoom t es
+IsReadyFor _ touched room es = Unit {0}
+
+abbrev pub IsReady : Progress → Type 0
+IsReady q = IsReadyFor q.out (vec_len q.touched) (vec_capacity q.touched) q.attempts.entries
+
+abbrev pub AreReady : List Progress → Type 0
+AreReady [] = Unit {0}
+AreReady (q ∷ qs) = IsReady q × AreReady qs
+
+-- it has processed those at least that come before a transaction, as far as it had before
+abbrev pub back_to_before : List PlainTxn → ℕ → PlainProgress → PlainProgress
+back_to_before txns t q = record q { processed = before_it (plain_txn_in txns t).phase q.processed }
+
+-- or those that it has committed
+abbrev pub back_to_position : PlainProgress → PlainProgress
+back_to_position q = record q { processed = q.position }
+
 -- what a reply, and what follows from it, may add has its place already
 pub record HasRoom (v : Inside) : Type 0 where
   pub log : vec_len v.log + vec_len v.opened ≤ vec_capacity v.log
   pub given : HaveGivenRoom v.txns.items
+  pub replies : vec_len v.replies + runs_out (map plain_progress v.replicas.items) ≤ vec_capacity v.replies
+  pub ready : AreReady v.replicas.items
 
 pub record IsWhole (v : Inside) : Type 0 where
   pub few : v.f ≤ 3

@@ -1,10 +1,11 @@
 -- Not to be believed: the fields of a `View` without where they lie in memory, of which its proofs speak.
-use Rattle.std.specs.Prelude.{ℕ, ◌+◌, Bool, true, false, ◌&&◌, ◌==◌, if◌then◌else◌, Option, None, Some, List, [], ◌∷◌, ◌++◌, map, nat_eq, slice_get, unwrap_or}
+use Rattle.std.specs.Prelude.{ℕ, ◌+◌, Bool, true, false, not, ◌&&◌, ◌==◌, if◌then◌else◌, Option, None, Some, List, [], ◌∷◌, ◌++◌, map, nat_eq, slice_get, unwrap_or}
 use Rattle.std.specs.Map.{lookup}
 use Rattle.hr_base.specs.Counters.{shown}
 use Rattle.hr_base.specs.Lists.{is_empty, has, numbered}
 use Rattle.hr_engine.specs.declared.reply.RunReply.{RunReply}
 use Rattle.hr_history.specs.declared.job.Job.{Job}
+use Rattle.hr_history.specs.declared.job.Job.TheVariants as job
 use Rattle.hr_history.specs.declared.phase.Phase.{Phase}
 use Rattle.hr_history.specs.declared.phase.Phase.TheVariants as phase
 use Rattle.hr_history.specs.declared.phase.Fresh.{Fresh}
@@ -104,6 +105,10 @@ plain_attempt_in entries t = unwrap_or (lookup (nat_eq t) entries) idle_attempt
 abbrev pub plain_replica_in : List PlainProgress → ℕ → PlainProgress
 plain_replica_in replicas r = unwrap_or (slice_get replicas r) idle_progress
 
+-- neither lost nor convicted
+abbrev pub live_of : List PlainProgress → ℕ → Bool
+live_of replicas r = not (plain_replica_in replicas r).lost && not (plain_replica_in replicas r).convicted
+
 -- small changes
 
 -- a transaction that a session has just begun
@@ -188,6 +193,10 @@ and_entry t es = if has (map key es) t then es else es ++ (t, idle_attempt) ∷ 
 
 abbrev pub with_run_entry : ℕ → PlainProgress → PlainProgress
 with_run_entry t q = record q { attempts = and_entry t q.attempts }
+
+-- a run of its statement is out
+abbrev pub with_run : ℕ → ℕ → PlainProgress → PlainProgress
+with_run t i q = record (with_run_entry t q) { out = Some (job.Run t i) }
 
 abbrev pub with_out : Job → PlainProgress → PlainProgress
 with_out j q = record q { out = Some j }

@@ -1,9 +1,14 @@
 //! A transaction at a replica, as the view keeps it.
-ghost use Rattle.std.specs.Prelude.{◌≡◌, length, map};
-ghost use Rattle.hr_progress.specs.Plain.{plain_entry, plain_attempt_in, with_entry, to_preempted};
+ghost use Rattle.std.specs.Prelude.{◌≡◌, ◌≤◌, ◌<◌, ℕ, None, Some, [], ◌∷◌, ◌++◌, length, map, nat_eq, OnOk, OnErr};
+ghost use Rattle.std.specs.Map.{lookup};
+ghost use Rattle.hr_base.specs.declared.limits.TheConstants.{MAX_SUBMITS};
+ghost use Rattle.hr_progress.specs.Kept.{IsRoomy, HasAnswerRoom};
+ghost use Rattle.hr_progress.specs.Plain.{plain_attempt, plain_entry, plain_attempt_in, idle_attempt, and_entry, with_entry, to_preempted};
 
+use hr_base::limits::MAX_SUBMITS;
 use hr_engine::TxnId;
 use indexmap::IndexMap;
+use std::alloc::{AllocError, Global};
 
 /// A transaction at a replica.
 #[derive(Drop)]
@@ -40,10 +45,62 @@ pub fn answered(attempts: &IndexMap<TxnId, Attempt>, txn: TxnId) -> usize
 
 /// A transaction is to be rolled back, and to run again.
 pub fn preempt(attempts: &mut IndexMap<TxnId, Attempt>, txn: TxnId)
-    ensures { map plain_entry attempts.new.entries ≡ with_entry txn to_preempted (map plain_entry attempts.old.entries) }
+    ensures value { map plain_entry attempts.new.entries ≡ with_entry txn to_preempted (map plain_entry attempts.old.entries) }
+    ensures room { (t : ℕ) → HasAnswerRoom t attempts.old.entries → HasAnswerRoom t attempts.new.entries }
 {
     if let Some(place) = attempts.get_index_of(&txn) {
         let attempt = &mut attempts[place];
         attempt.preempted = true;
     }
+}
+
+/// Keeps a place for one answer more of a transaction, which has an entry then. Refuses an entry past the number of
+/// statements that may be submitted, which never comes, as want of memory.
+pub fn prepare(
+    alloc: Global,
+    attempts: &mut IndexMap<TxnId, Attempt>,
+    txn: TxnId,
+) -> Result<(), AllocError>
+    requires { length attempts.old.entries ≤ MAX_SUBMITS }
+    ensures ok { OnOk result (map plain_entry attempts.new.entries ≡ and_entry txn (map plain_entry attempts.old.entries)) }
+    ensures few { OnOk result (length attempts.new.entries ≤ MAX_SUBMITS) }
+    ensures room { OnOk result (HasAnswerRoom txn attempts.new.entries) }
+    ensures err { OnErr result (map plain_entry attempts.new.entries ≡ map plain_entry attempts.old.entries) }
+{
+    match attempts.get_index_of(&txn) {
+        Some(place) => reserve(&mut attempts[place]),
+        None if attempts.len() as u64 >= MAX_SUBMITS => Err(AllocError),
+        None => insert(alloc, attempts, txn),
+    }
+}
+
+fn reserve(attempt: &mut Attempt) -> Result<(), AllocError>
+    ensures same { plain_attempt attempt.new ≡ plain_attempt attempt.old }
+    ensures room { OnOk result (IsRoomy (Some attempt.new)) }
+{
+    attempt.answers.reserve(1)?;
+    Ok(())
+}
+
+fn insert(
+    alloc: Global,
+    attempts: &mut IndexMap<TxnId, Attempt>,
+    txn: TxnId,
+) -> Result<(), AllocError>
+    requires new { lookup (nat_eq txn) attempts.old.entries ≡ None }
+    requires few { length attempts.old.entries < MAX_SUBMITS }
+    ensures few { OnOk result (length attempts.new.entries ≤ MAX_SUBMITS) }
+    ensures ok { OnOk result (map plain_entry attempts.new.entries ≡ map plain_entry attempts.old.entries ++ (txn, idle_attempt) ∷ []) }
+    ensures room { OnOk result (HasAnswerRoom txn attempts.new.entries) }
+    ensures err { OnErr result (map plain_entry attempts.new.entries ≡ map plain_entry attempts.old.entries) }
+{
+    let attempt = Attempt {
+        answers: Vec::with_capacity(alloc, 1)?,
+        began: 0,
+        last: None,
+        touched: false,
+        preempted: false,
+    };
+    attempts.insert(txn, attempt)?;
+    Ok(())
 }

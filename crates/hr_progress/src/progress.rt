@@ -1,15 +1,17 @@
 //! A replica, as the view keeps it.
-ghost use Rattle.std.specs.Prelude.{◌≡◌, ◌+◌, ◌^◌, ◌<◌, ◌≤◌, length, map, nat_eq, option_copied, position, slice_get, replicate, slice_index, IfOk, IsTrue};
+ghost use Rattle.std.specs.Prelude.{◌≡◌, ◌+◌, ◌-◌, ◌*◌, ◌^◌, ◌<◌, ◌≤◌, find, length, map, nat_eq, option_copied, position, slice_get, replicate, slice_index, None, Some, false, IfOk, OnOk, OnErr, IsTrue};
 ghost use Rattle.std.specs.Map.{lookup};
 ghost use Rattle.std.specs.Option.{option_map};
-ghost use Rattle.std.specs.List.{list_any, list_all};
+ghost use Rattle.std.specs.List.{list_any, list_all, range_with_len};
+ghost use Rattle.hr_base.specs.declared.limits.TheConstants.{MAX_SUBMITS};
+ghost use Rattle.hr_history.specs.Primary as primary;
 ghost use Rattle.hr_history.specs.Processed as history;
 ghost use Rattle.hr_moves.specs.Changes.{map_from, change_at};
-ghost use Rattle.hr_progress.specs.Plain.{key, plain_txn, plain_entry, plain_attempt, plain_progress, plain_attempt_in, plain_replica_in, idle_progress, to_convicted, with_preempted, with_restart};
+ghost use Rattle.hr_progress.specs.Plain.{key, and_entry, with_run, with_out, plain_txn, plain_entry, plain_attempt, plain_progress, plain_attempt_in, plain_replica_in, live_of, idle_progress, to_convicted, with_preempted, with_restart};
 ghost use Rattle.hr_progress.specs.Seen as seen;
-ghost use Rattle.hr_progress.specs.Kept.{is_processed_at, processed_of, recounted, restarted, IsLeast, NoneLess};
+ghost use Rattle.hr_progress.specs.Kept.{is_processed_at, processed_of, recounted, restarted, IsLeast, NoneLess, is_run, IsReady, AreReady};
 
-use crate::attempt::{Attempt, Told, answered, preempt};
+use crate::attempt::{Attempt, Told, answered, preempt, prepare};
 use crate::txn::{TxnState, phase_of, statements_of};
 use hr_engine::TxnId;
 use hr_history::{Job, Phase};
@@ -101,7 +103,8 @@ pub fn processed_from(
 /// A replica is convicted.
 pub fn convict(replicas: &mut Vec<Progress>, replica: u32)
     requires { replica < length replicas.old.items }
-    ensures { map plain_progress replicas.new.items ≡ map_from (change_at replica to_convicted) 0 (map plain_progress replicas.old.items) }
+    ensures value { map plain_progress replicas.new.items ≡ map_from (change_at replica to_convicted) 0 (map plain_progress replicas.old.items) }
+    ensures room { AreReady replicas.old.items → AreReady replicas.new.items }
 {
     let progress = &mut replicas[replica as usize];
     progress.convicted = true;
@@ -110,7 +113,8 @@ pub fn convict(replicas: &mut Vec<Progress>, replica: u32)
 /// A transaction is to be rolled back at a replica, and to run again there.
 pub fn preempt_at(replicas: &mut Vec<Progress>, replica: u32, txn: TxnId)
     requires { replica < length replicas.old.items }
-    ensures { map plain_progress replicas.new.items ≡ map_from (change_at replica (with_preempted txn)) 0 (map plain_progress replicas.old.items) }
+    ensures value { map plain_progress replicas.new.items ≡ map_from (change_at replica (with_preempted txn)) 0 (map plain_progress replicas.old.items) }
+    ensures room { AreReady replicas.old.items → AreReady replicas.new.items }
 {
     let progress = &mut replicas[replica as usize];
     preempt(&mut progress.attempts, txn);
@@ -119,7 +123,8 @@ pub fn preempt_at(replicas: &mut Vec<Progress>, replica: u32, txn: TxnId)
 /// Counts anew how much of the log a replica has processed, which is no less than it is said to be.
 fn recount_one(progress: &mut Progress, txns: &[TxnState], log: &[TxnId])
     requires { progress.old.processed ≤ processed_of (map plain_txn txns.now) log.now progress.old.position (map plain_entry progress.old.attempts.entries) }
-    ensures { plain_progress progress.new ≡ recounted (map plain_txn txns.now) log.now (plain_progress progress.old) }
+    ensures value { plain_progress progress.new ≡ recounted (map plain_txn txns.now) log.now (plain_progress progress.old) }
+    ensures room { IsReady progress.old → IsReady progress.new }
 {
     progress.processed = processed_from(
         &progress.attempts,
@@ -133,7 +138,8 @@ fn recount_one(progress: &mut Progress, txns: &[TxnState], log: &[TxnId])
 /// Counts anew how much of the log each replica has processed.
 pub fn recount(replicas: &mut Vec<Progress>, txns: &[TxnState], log: &[TxnId])
     requires { NoneLess (map plain_txn txns.now) log.now (map plain_progress replicas.old.items) }
-    ensures { map plain_progress replicas.new.items ≡ map (recounted (map plain_txn txns.now) log.now) (map plain_progress replicas.old.items) }
+    ensures value { map plain_progress replicas.new.items ≡ map (recounted (map plain_txn txns.now) log.now) (map plain_progress replicas.old.items) }
+    ensures room { AreReady replicas.old.items → AreReady replicas.new.items }
 {
     'replicas: for place in 0..replicas.len() {
         recount_one(&mut replicas[place], txns, log);
@@ -143,7 +149,8 @@ pub fn recount(replicas: &mut Vec<Progress>, txns: &[TxnState], log: &[TxnId])
 // A replica is restarted, and tells how many commits it has made.
 fn restart(progress: &mut Progress, count: u64)
     requires { IsTrue progress.old.doubt → progress.old.position + 1 < 2 ^ 64 }
-    ensures { plain_progress progress.new ≡ with_restart count (plain_progress progress.old) }
+    ensures value { plain_progress progress.new ≡ with_restart count (plain_progress progress.old) }
+    ensures room { IsReady progress.new }
 {
     if progress.doubt && count == progress.position + 1 {
         progress.position += 1;
@@ -164,7 +171,8 @@ pub fn restart_at(
     requires known { replica < length replicas.old.items }
     requires next { IsTrue (plain_replica_in (map plain_progress replicas.old.items) replica).doubt → (plain_replica_in (map plain_progress replicas.old.items) replica).position + 1 < 2 ^ 64 }
     requires least { IsLeast (map plain_txn txns.now) log.now (with_restart count (plain_replica_in (map plain_progress replicas.old.items) replica)) }
-    ensures { map plain_progress replicas.new.items ≡ map_from (change_at replica (restarted (map plain_txn txns.now) log.now count)) 0 (map plain_progress replicas.old.items) }
+    ensures value { map plain_progress replicas.new.items ≡ map_from (change_at replica (restarted (map plain_txn txns.now) log.now count)) 0 (map plain_progress replicas.old.items) }
+    ensures room { AreReady replicas.old.items → AreReady replicas.new.items }
 {
     let progress = &mut replicas[replica as usize];
     restart(progress, count);
@@ -316,6 +324,37 @@ pub fn all_run_since(replicas: &[Progress], replica: u32, place: usize, txns: &[
     true
 }
 
+/// The candidate: the first live replica from the one after the start of the search on, and round to that.
+pub fn candidate_after(replicas: &[Progress], f: u32, start: u32) -> Option<u32>
+    requires few { f ≤ 3 }
+    requires known { start ≤ 2 * f }
+    ensures { result ≡ primary.candidate_after f (live_of (map plain_progress replicas.now)) start }
+{
+    match first_live(replicas, start + 1, 2 * f + 1) {
+        Some(replica) => Some(replica),
+        None => first_live(replicas, 0, start + 1),
+    }
+}
+
+// The first live one of the replicas from this one on, up to another and without that.
+fn first_live(replicas: &[Progress], from: u32, to: u32) -> Option<u32>
+    ensures { result ≡ find (live_of (map plain_progress replicas.now)) (range_with_len from (to - from)) }
+{
+    'replicas: for replica in from..to {
+        if is_live(replicas, replica) {
+            return Some(replica);
+        }
+    }
+    None
+}
+
+// Whether a replica is neither lost nor convicted.
+fn is_live(replicas: &[Progress], replica: u32) -> bool
+    ensures { result ≡ live_of (map plain_progress replicas.now) replica }
+{
+    !lost_of(replicas, replica) && !convicted_of(replicas, replica)
+}
+
 /// How many transactions have an entry at a replica.
 pub fn entry_count(replicas: &[Progress], replica: u32) -> usize
     ensures { result ≡ length (plain_replica_in (map plain_progress replicas.now) replica).attempts }
@@ -354,4 +393,41 @@ pub fn entry_place(replicas: &[Progress], replica: u32, txn: TxnId) -> Option<us
         Some(progress) => progress.attempts.get_index_of(&txn),
         None => None,
     }
+}
+
+/// A run of a transaction's statement is out at a replica: the transaction has an entry, and what its reply will take has
+/// its place.
+pub fn send_run(
+    alloc: Global,
+    replicas: &mut Vec<Progress>,
+    replica: u32,
+    txn: TxnId,
+    index: u32,
+) -> Result<(), AllocError>
+    requires known { replica < length replicas.old.items }
+    requires free { (plain_replica_in (map plain_progress replicas.old.items) replica).out ≡ None }
+    requires few { length (plain_replica_in (map plain_progress replicas.old.items) replica).attempts ≤ MAX_SUBMITS }
+    requires room { AreReady replicas.old.items }
+    ensures ok { OnOk result (map plain_progress replicas.new.items ≡ map_from (change_at replica (with_run txn index)) 0 (map plain_progress replicas.old.items)) }
+    ensures few { OnOk result (length (and_entry txn (plain_replica_in (map plain_progress replicas.old.items) replica).attempts) ≤ MAX_SUBMITS) }
+    ensures err { OnErr result (map plain_progress replicas.new.items ≡ map plain_progress replicas.old.items) }
+    ensures room { AreReady replicas.new.items }
+{
+    let progress = &mut replicas[replica as usize];
+    progress.touched.reserve(1)?;
+    prepare(alloc, &mut progress.attempts, txn)?;
+    progress.out = Some(Job::Run(txn, index));
+    Ok(())
+}
+
+/// A job that is no run is out at a replica.
+pub fn send(replicas: &mut Vec<Progress>, replica: u32, job: Job)
+    requires known { replica < length replicas.old.items }
+    requires plain { is_run (Some job) ≡ false }
+    requires room { AreReady replicas.old.items }
+    ensures value { map plain_progress replicas.new.items ≡ map_from (change_at replica (with_out job)) 0 (map plain_progress replicas.old.items) }
+    ensures room { AreReady replicas.new.items }
+{
+    let progress = &mut replicas[replica as usize];
+    progress.out = Some(job);
 }

@@ -5,7 +5,7 @@ ghost use Rattle.hr_base.specs.Lists.{numbered};
 ghost use Rattle.hr_base.specs.declared.limits.TheConstants.{MAX_STATEMENTS};
 ghost use Rattle.hr_history.specs.Given.{Given};
 ghost use Rattle.hr_history.specs.Processed as history;
-ghost use Rattle.hr_history.specs.Processed.{txn_in, phase_in, replica_in, answers_in, runs_in, processed_in, live_in, attempt_in};
+ghost use Rattle.hr_history.specs.Processed.{txn_in, phase_in, replica_in, answers_in, runs_in, processed_in, live_in, attempt_in, candidate_in};
 ghost use Rattle.hr_history.specs.Ranks.{is_before, rank_by, ranks_before};
 ghost use Rattle.hr_moves.specs.Kept.{open_in, touched_in};
 ghost use Rattle.hr_moves.specs.Sane.{IsReplica};
@@ -13,8 +13,8 @@ ghost use Rattle.hr_progress.specs.Plain.{plain_entry, plain_attempt_in};
 
 use crate::attempt::Attempt;
 use crate::progress::{
-    answered_at, convicted_of, doubt_of, is_logged_by, lost_of, out_of, position_of, processed_of,
-    touched_of,
+    answered_at, candidate_after, convicted_of, doubt_of, is_logged_by, lost_of, out_of,
+    position_of, processed_of, touched_of,
 };
 use crate::txn::{given_of, phase_of, stamp_at, statements_of};
 use crate::view::View;
@@ -159,6 +159,14 @@ impl View {
         ensures { result ≡ self.now.fresh }
     {
         self.fresh
+    }
+
+    /// The candidate: the first live replica from the one after the start of the search on, and round to that. None where
+    /// every replica is lost or convicted.
+    pub fn candidate(&self) -> Option<u32>
+        ensures { result ≡ candidate_in self.now }
+    {
+        candidate_after(&self.replicas, self.f, self.search_after)
     }
 
     /// How many replicas there are.

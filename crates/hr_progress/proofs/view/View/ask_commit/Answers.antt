@@ -39,5 +39,5 @@ invariant_of-self c =
       sane = subst IsSane (sym (after c)) (sane_after c.args.self.now 0 c.args.asks (event.AskCommit c.args.txn) (subst IsSane c.self.view_is c.self.invariant.sane) c.requires.open);
       kept = subst IsKept (sym (moved c)) (kept_open p c.args.txn (to_phase asked) opened shut record { opened = c.self.invariant.kept.opened; counted = c.self.invariant.kept.counted } refl);
       places = subst ArePlaces (sym (moved c)) (places_open p c.args.txn (to_phase asked) (λ x. refl) record { told = c.self.invariant.places.told; given = c.self.invariant.places.given });
-      room = record { log = c.self.invariant.room.log; given = c.set_phase.ensures.room c.self.invariant.room.given };
+      room = record { log = c.self.invariant.room.log; given = c.set_phase.ensures.room c.self.invariant.room.given; replies = c.self.invariant.room.replies; ready = c.self.invariant.room.ready };
     }

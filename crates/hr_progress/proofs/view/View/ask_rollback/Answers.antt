@@ -37,5 +37,5 @@ invariant_of-self c =
       sane = subst IsSane (sym (after c)) (sane_after c.args.self.now 0 0 (event.AskRollback c.args.txn) (subst IsSane c.self.view_is c.self.invariant.sane) c.requires);
       kept = subst IsKept (sym (moved c)) (kept_end p c.args.txn (to_phase phase.RolledBack) opened shut record { opened = c.self.invariant.kept.opened; counted = c.self.invariant.kept.counted } refl);
       places = subst ArePlaces (sym (moved c)) (places_end p c.args.txn (to_phase phase.RolledBack) (λ x. refl) record { told = c.self.invariant.places.told; given = c.self.invariant.places.given });
-      room = record { log = omega (arith, c.self.invariant.room.log, c.close.ensures.fewer); given = c.set_phase.ensures.room c.self.invariant.room.given };
+      room = record { log = omega (arith, c.self.invariant.room.log, c.close.ensures.fewer); given = c.set_phase.ensures.room c.self.invariant.room.given; replies = c.self.invariant.room.replies; ready = c.self.invariant.room.ready };
     }

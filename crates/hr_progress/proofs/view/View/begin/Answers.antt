@@ -50,5 +50,7 @@ invariant_of-self-2 c =
       room = record {
         log = omega (arith, c.in_ok-reserve.ensures.ok, c.len.ensures, c.push_reserved.ensures.len, c.reserve-2.ensures.len);
         given = c.begin.ensures.room c.self.invariant.room.given;
+        replies = c.self.invariant.room.replies;
+        ready = c.self.invariant.room.ready;
       };
     }

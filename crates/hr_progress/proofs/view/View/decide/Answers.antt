@@ -1,4 +1,4 @@
-use Rattle.std.proofs.Common.{◌≡◌, ◌+◌, List, map, sym, ◌∙◌, ap, subst, arith}
+use Rattle.std.proofs.Common.{◌≡◌, ◌+◌, List, map, sym, ◌∙◌, ap, subst, refl, arith}
 use Rattle.hr_base.specs.Lists.{has}
 use Rattle.hr_history.specs.declared.phase.Phase.TheVariants as phase
 use Rattle.hr_history.specs.View.{View}
@@ -11,9 +11,10 @@ use Rattle.hr_sane.proofs.MoveLaws.{moves}
 use Rattle.hr_progress.proofs.Sanes.{sane_after}
 use Rattle.hr_progress.specs.Plain.{PlainTxn, plain, plain_txn, to_phase}
 use Rattle.hr_progress.specs.Seen.{seen, seen_plain}
-use Rattle.hr_progress.specs.Kept.{IsKept, ArePlaces, NoneLess, recounted}
+use Rattle.hr_progress.specs.Kept.{IsKept, ArePlaces, NoneLess, recounted, runs_out}
 use Rattle.hr_progress.proofs.Decides.{decided, txns_then, log_then, seen_decided, less_then, kept_decided, places_decided, is_opened}
 use Rattle.hr_progress.proofs.Txns.{closed, opened_plain}
+use Rattle.hr_progress.proofs.Ready.{runs_map}
 use Rattle.hr_progress.proofs.view.View.decide.Goals as goal
 
 pub push_reserved-requires : goal.push_reserved-requires
@@ -48,7 +49,7 @@ moved c =
     λ i. record p {
       log = c.push_reserved.ensures.items i;
       txns = (c.set_phase.ensures.phase ∙ ap (λ n. map_from (change_at c.args.txn (to_phase (phase.Logged (n + 1)))) 1 (map plain_txn c.self.inside.txns.items)) (c.len.ensures ∙ c.self.inside.log.ok.0)) i;
-      replicas = (c.recount.ensures ∙ (λ j. map (recounted (txns_at c j) (log_at c j)) p.replicas)) i;
+      replicas = (c.recount.ensures.value ∙ (λ j. map (recounted (txns_at c j) (log_at c j)) p.replicas)) i;
       opened = c.close.ensures.others i;
     }
 
@@ -71,5 +72,7 @@ invariant_of-self c =
       room = record {
         log = omega (arith, c.self.invariant.room.log, c.push_reserved.ensures.len, c.push_reserved.ensures.capacity, c.close.ensures.one (ap (λ ts. has ts c.args.txn) c.self.invariant.kept.opened ∙ is_opened p.txns c.args.txn opened));
         given = c.set_phase.ensures.room c.self.invariant.room.given;
+        replies = omega (arith, c.self.invariant.room.replies, ap runs_out c.recount.ensures.value, runs_map (recounted (map plain_txn c.deref.result.now) c.deref-2.result.now) p.replicas (λ q. refl));
+        ready = c.recount.ensures.room c.self.invariant.room.ready;
       };
     }

@@ -15,5 +15,5 @@ invariant_of-self c = record {
   sane = subst IsSane (sym (ap (λ v. after_new_primary v c.args.replica) c.self.view_is)) (sane_after c.args.self.now 0 0 (event.NewPrimary c.args.replica) (subst IsSane c.self.view_is c.self.invariant.sane) (c.requires.known, c.requires.live));
   kept = record { opened = c.self.invariant.kept.opened; counted = c.self.invariant.kept.counted };
   places = record { told = c.self.invariant.places.told; given = c.self.invariant.places.given };
-  room = record { log = c.self.invariant.room.log; given = c.self.invariant.room.given };
+  room = record { log = c.self.invariant.room.log; given = c.self.invariant.room.given; replies = c.self.invariant.room.replies; ready = c.self.invariant.room.ready };
 }

@@ -34,5 +34,5 @@ invariant_of-self c =
       sane = subst IsSane (sym (after c)) (sane_after c.args.self.now 0 0 (event.Refuse c.args.txn (cause.PrimaryMemory 0)) (subst IsSane c.self.view_is c.self.invariant.sane) c.requires);
       kept = subst IsKept (sym (moved c)) (kept_end p c.args.txn (to_phase phase.Refused) (opened_plain p c.args.txn opened) (closed p sane) c.self.invariant.kept refl);
       places = subst ArePlaces (sym (moved c)) (places_end p c.args.txn (to_phase phase.Refused) (λ x. refl) c.self.invariant.places);
-      room = record { log = omega (arith, c.self.invariant.room.log, c.close.ensures.fewer); given = c.set_phase.ensures.room c.self.invariant.room.given };
+      room = record { log = omega (arith, c.self.invariant.room.log, c.close.ensures.fewer); given = c.set_phase.ensures.room c.self.invariant.room.given; replies = c.self.invariant.room.replies; ready = c.self.invariant.room.ready };
     }

@@ -1,4 +1,4 @@
-use Rattle.std.proofs.Common.{◌≡◌, ◌<◌, None, map, length, sym, ◌∙◌, ap, subst, refl, arith}
+use Rattle.std.proofs.Common.{◌≡◌, ◌<◌, None, map, length, sym, ◌∙◌, ap, subst, refl, arith, true, false}
 use Rattle.hr_history.specs.View.{View}
 use Rattle.hr_moves.specs.Changes.{map_from, change_at, with_replica}
 use Rattle.hr_moves.specs.Sane.{IsSane, IsReplica}
@@ -8,11 +8,15 @@ use Rattle.hr_sane.proofs.MoveLaws.{moves}
 use Rattle.hr_progress.proofs.Sanes.{sane_after}
 use Rattle.hr_progress.specs.Plain.{PlainView, plain, plain_txn, plain_replica_in, with_restart}
 use Rattle.hr_progress.specs.Seen.{seen, seen_plain}
-use Rattle.hr_progress.specs.Kept.{IsKept, ArePlaces, IsLeast, restarted}
+use Rattle.hr_progress.specs.Kept.{IsKept, ArePlaces, IsLeast, restarted, runs_out}
 use Rattle.hr_progress.proofs.Replicas.{with_change, within, within_code, kept_change, places_change, seen_change}
 use Rattle.hr_progress.proofs.Rests.{seen_rest}
 use Rattle.hr_progress.proofs.Restarts.{in_doubt, least_restarted, counted_restarted}
+use Rattle.hr_progress.proofs.Ready.{runs_no_more}
 use Rattle.hr_progress.proofs.view.View.restarted.Goals as goal
+
+no_run : false ≡ true → ⊥
+no_run e = cc
 
 known : (c : goal.After-deref-2) → c.args.replica < length (plain c.self.inside).replicas
 known c = within (plain c.self.inside) c.args.replica c.self.invariant.sane (subst (λ (v : View). IsReplica v c.args.replica) (sym c.self.view_is) c.requires.known)
@@ -35,7 +39,7 @@ moved : (c : goal.After-restart_at) → plain record c.self.inside { replicas = 
 moved c =
     let p = plain c.self.inside in
     λ i. record p {
-      replicas = (c.restart_at.ensures ∙ (λ j. map_from (change_at c.args.replica (restarted (map plain_txn (c.deref.ensures.value j)) (c.deref-2.ensures.value j) c.args.count)) 0 p.replicas)) i;
+      replicas = (c.restart_at.ensures.value ∙ (λ j. map_from (change_at c.args.replica (restarted (map plain_txn (c.deref.ensures.value j)) (c.deref-2.ensures.value j) c.args.count)) 0 p.replicas)) i;
       fresh = None;
     }
 
@@ -57,5 +61,10 @@ invariant_of-self c =
       sane = subst IsSane (sym (after c)) (sane_after c.args.self.now 0 0 (event.Restarted c.args.replica c.args.count) (subst IsSane c.self.view_is c.self.invariant.sane) (c.requires.known, c.requires.out));
       kept = subst IsKept (sym (moved c)) (kept_change p c.args.replica (restarted p.txns p.log c.args.count) record { opened = c.self.invariant.kept.opened; counted = c.self.invariant.kept.counted } (counted_restarted p.txns p.log c.args.count q));
       places = subst ArePlaces (sym (moved c)) (places_change p c.args.replica (restarted p.txns p.log c.args.count) record { told = c.self.invariant.places.told; given = c.self.invariant.places.given } (λ told. told));
-      room = record { log = c.self.invariant.room.log; given = c.self.invariant.room.given };
+      room = record {
+        log = c.self.invariant.room.log;
+        given = c.self.invariant.room.given;
+        replies = omega (arith, c.self.invariant.room.replies, ap runs_out c.restart_at.ensures.value, runs_no_more c.args.replica 0 (restarted (map plain_txn c.deref.result.now) c.deref-2.result.now c.args.count) (plain c.self.inside).replicas (λ q run. absurd (no_run run)));
+        ready = c.restart_at.ensures.room c.self.invariant.room.ready;
+      };
     }
