@@ -168,7 +168,7 @@ module _ (k n : ℤ) (fits : fits_i64 k ≡ true) where
       in_from_to n n k (subst (λ (j : ℤ). int_le n j ≡ true) same (le_itself n)) (subst (λ (j : ℤ). int_le j n ≡ true) same (le_itself n))
 
   -- a key that stands so to a number
-  key_passes : (o : Op) → passes o (int_cmp k n) ≡ true → has_in (keys_to o n) k ≡ true
+  pub key_passes : (o : Op) → passes o (int_cmp k n) ≡ true → has_in (keys_to o n) k ≡ true
   key_passes op.Eq h = let told = told_eq (int_lt k n) (int_lt n k) h in equal_in k n told.0 told.1 refl refl
   key_passes op.Ne h = in_all k fits
   key_passes op.Lt h = in_from_to least_key (n -ℤ pos 1) k (not_below k fits) (below k n (told_lt (int_lt k n) (int_lt n k) h))

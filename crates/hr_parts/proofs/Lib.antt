@@ -6,5 +6,6 @@ pub mod Statements
 pub mod WholeTables
 pub mod KeyLaws
 pub mod KeyParts
+pub mod ExactKeys
 pub mod Lists
 pub mod Together
