@@ -1,0 +1,4 @@
+mod CellLaws
+mod EndLaws
+mod PutLaws
+mod StoreLaws

@@ -1,0 +1,5 @@
+pub mod Places
+pub mod Cells
+pub mod Changes
+pub mod Loads
+pub mod Store

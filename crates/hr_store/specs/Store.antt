@@ -1,0 +1,25 @@
+-- What stands in a store, and what each call does there.
+use Rattle.std.specs.Prelude.{ℕ, ℤ, List}
+use Rattle.hr_rel.specs.declared.value.Value.{Value}
+use Rattle.hr_store.specs.declared.cell.Cell.{Cell}
+use Rattle.hr_store.specs.declared.store.Store.{Store}
+use Rattle.hr_store.specs.Places.{place_of}
+use Rattle.hr_store.specs.Cells.{empty_cell, held_at}
+use Rattle.hr_store.specs.Changes.{after_put, after_remove}
+use Rattle.hr_store.specs.Loads.{all_loaded}
+
+-- what stands at a key of a table
+abbrev pub cell_at : Store → ℕ → ℤ → Cell
+cell_at store table key = held_at store.cells (place_of table key)
+
+-- what stands there at the start: the row of that key is committed, and nothing is pending
+abbrev pub start_cell : List (List (List Value)) → ℕ → ℤ → Cell
+start_cell rows table key = all_loaded 0 rows (place_of table key) empty_cell
+
+-- what stands there after a put into a table: where a row has the key, it is pending
+abbrev pub put_cell : ℕ → ℕ → List (List Value) → ℕ → ℤ → Cell → Cell
+put_cell txn into rows table key cell = after_put txn into rows (place_of table key) cell
+
+-- what stands there after a remove from a table: where the key is among these, it is pending that there is no row
+abbrev pub remove_cell : ℕ → ℕ → List ℤ → ℕ → ℤ → Cell → Cell
+remove_cell txn from keys table key cell = after_remove txn from keys (place_of table key) cell

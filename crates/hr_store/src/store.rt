@@ -1,0 +1,123 @@
+//! The store.
+ghost use Rattle.hr_store.specs.Cells.{IsListed};
+
+use crate::cell::TxnId;
+use crate::cells::Cells;
+use crate::changes::{end_all, prepare_keys, prepare_rows, write_keys, write_rows};
+use crate::ending::Ending;
+use crate::load::load_tables;
+use crate::place::Place;
+use crate::written::{Written, first_of};
+use hr_rel::{Row, Rows};
+use std::alloc::{AllocError, Global};
+use std::collections::BTreeMap;
+
+/// The rows of a database, by table and key: beside each committed row at most one pending one, of a transaction that
+/// hasn't ended.
+///
+/// Contracts see it by `cell_at`: what stands at each key of each table.
+#[derive(Drop)]
+pub struct Store {
+    cells: Cells,
+    written: Written,
+    ghost listed: { IsListed cells written },
+}
+
+impl Store {
+    ghost use Rattle.std.specs.Prelude.{◌≡◌, ◌<◌, ℕ, ℤ, IsSome, IfOk, OnOk, OnErr};
+    ghost use Rattle.std.specs.Ordering.{nat_cmp};
+    ghost use Rattle.std.specs.BTreeMap.{get, btree_map_len};
+    ghost use Rattle.std.specs.Option.{option_map};
+    ghost use Rattle.hr_store.specs.declared.ending.Ending.TheVariants.{Commit, Rollback};
+    ghost use Rattle.hr_store.specs.Cells.{seen_in, ended, forgotten};
+    ghost use Rattle.hr_store.specs.Store.{cell_at, start_cell, put_cell, remove_cell};
+
+    /// A store of these rows, all of them committed. An error is want of memory.
+    pub fn new(alloc: Global, rows: &Rows) -> Result<Store, AllocError>
+        ensures { IfOk result (λ store. (t : ℕ) (k : ℤ) → cell_at store t k ≡ start_cell rows.now t k) }
+    {
+        let mut cells = BTreeMap::new(alloc);
+        load_tables(alloc, &mut cells, rows.as_slice())?;
+        Ok(Store {
+            cells,
+            written: BTreeMap::new(alloc),
+        })
+    }
+
+    /// The row that a transaction sees at a key: its own pending one first. Takes no memory.
+    pub fn get(&self, txn: TxnId, table: u32, key: i64) -> Option<&Row>
+        ensures { option_map (λ row. row.now) result ≡ seen_in txn (cell_at self.now table key) }
+    {
+        let place = Place::new(table, key);
+        match self.cells.get(&place) {
+            Some(cell) => cell.seen(txn),
+            None => None,
+        }
+    }
+
+    /// Puts rows into a table, each at its key, for one transaction alone until it commits. An error is want of memory,
+    /// and then nothing has changed.
+    pub fn put(
+        &mut self,
+        alloc: Global,
+        txn: TxnId,
+        table: u32,
+        rows: Vec<Row>,
+    ) -> Result<(), AllocError>
+        ensures put { OnOk result ((t : ℕ) (k : ℤ) → cell_at self.new t k ≡ put_cell txn table rows.items t k (cell_at self.old t k)) }
+        ensures err { OnErr result ((t : ℕ) (k : ℤ) → cell_at self.new t k ≡ cell_at self.old t k) }
+    {
+        prepare_rows(alloc, &mut self.cells, &mut self.written, txn, table, &rows)?;
+        write_rows(&mut self.cells, txn, table, rows);
+        Ok(())
+    }
+
+    /// Removes the rows at these keys of a table, for one transaction alone until it commits. An error is want of memory,
+    /// and then nothing has changed.
+    pub fn remove(
+        &mut self,
+        alloc: Global,
+        txn: TxnId,
+        table: u32,
+        keys: &[i64],
+    ) -> Result<(), AllocError>
+        ensures removed { OnOk result ((t : ℕ) (k : ℤ) → cell_at self.new t k ≡ remove_cell txn table keys.now t k (cell_at self.old t k)) }
+        ensures err { OnErr result ((t : ℕ) (k : ℤ) → cell_at self.new t k ≡ cell_at self.old t k) }
+    {
+        prepare_keys(alloc, &mut self.cells, &mut self.written, txn, table, keys)?;
+        write_keys(&mut self.cells, txn, table, keys);
+        Ok(())
+    }
+
+    /// What a transaction wrote is committed. Takes no memory, and time in what it wrote.
+    pub fn commit(&mut self, txn: TxnId)
+        ensures { (t : ℕ) (k : ℤ) → cell_at self.new t k ≡ ended Commit txn (cell_at self.old t k) }
+    {
+        self.end(txn, Ending::Commit);
+    }
+
+    /// What a transaction wrote goes. Takes no memory, and time in what it wrote.
+    pub fn rollback(&mut self, txn: TxnId)
+        ensures { (t : ℕ) (k : ℤ) → cell_at self.new t k ≡ ended Rollback txn (cell_at self.old t k) }
+    {
+        self.end(txn, Ending::Rollback);
+    }
+
+    /// Everything pending goes. Takes no memory, and time in what was pending.
+    pub fn forget(&mut self)
+        ensures { (t : ℕ) (k : ℤ) → cell_at self.new t k ≡ forgotten (cell_at self.old t k) }
+    {
+        'txns: while let Some(txn) = first_of(&self.written) {
+            self.end(txn, Ending::Rollback);
+        }
+    }
+
+    fn end(&mut self, txn: TxnId, ending: Ending)
+        ensures ended { (t : ℕ) (k : ℤ) → cell_at self.new t k ≡ ended ending txn (cell_at self.old t k) }
+        ensures fewer { IsSome (get nat_cmp self.old.written txn) → btree_map_len self.new.written < btree_map_len self.old.written }
+    {
+        if let Some(places) = self.written.remove(&txn) {
+            end_all(&mut self.cells, places.as_slice(), txn, ending);
+        }
+    }
+}
