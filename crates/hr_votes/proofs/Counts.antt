@@ -31,10 +31,7 @@ module _ (p : ℕ → Bool) where
   pub count_end : (a to : ℕ) → to ≤ a → count_by p (range_with_len a (to - a)) ≡ 0
   count_end a to h = let none : to - a ≡ 0 = omega (arith, h) in ap (λ n. count_by p (range_with_len a n)) none ∙ count_none
 
-  -- where a number fails the search goes on behind it
-  pub find_on : (a to : ℕ) → a < to → p a ≡ false → find p (range_with_len a (to - a)) ≡ find p (range_with_len (a + 1) (to - (a + 1)))
-  find_on a to h fails = ap (find p) (range_left a to h) ∙ ap (λ b. cond b (Some a) (find p (range_with_len (a + 1) (to - (a + 1))))) fails
-
+  -- where it passes it is the first
   pub find_here : (a to : ℕ) → a < to → p a ≡ true → find p (range_with_len a (to - a)) ≡ Some a
   find_here a to h passes = ap (find p) (range_left a to h) ∙ ap (λ b. cond b (Some a) (find p (range_with_len (a + 1) (to - (a + 1))))) passes
 

@@ -1,6 +1,7 @@
 use Rattle.std.proofs.Common.{◌+◌, ◌*◌, ◌<◌, sym, ◌∙◌, arith}
 use Rattle.hr_history.specs.Votes.{contradicts}
-use Rattle.hr_votes.proofs.Counts.{find_on, find_here}
+use Rattle.hr_progress.proofs.Rounds.{find_on}
+use Rattle.hr_votes.proofs.Counts.{find_here}
 use Rattle.hr_votes.proofs.votes.contradicted_by.Goals as goal
 
 pub returns-then-contradicts : goal.returns-then-contradicts
