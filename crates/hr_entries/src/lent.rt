@@ -104,6 +104,8 @@ impl<'a> Model for Entries<'a> {
 }
 
 impl<'a> Entries<'a> {
+    ghost use Rattle.hr_entries.specs.Rest.{entries_left};
+
     /// The entries that these stand for.
     pub fn new(stored: &'a [Stored], statements: &'a [Stmt], replies: &'a [RunReply]) -> Entries<'a>
         requires { IsTrue (are_within statements.now replies.now stored.now) }
@@ -130,15 +132,64 @@ impl<'a> Entries<'a> {
         self.stored.is_empty()
     }
 
+    /// All entries, from the first.
+    pub fn iter(&self) -> EntryIter<'a>
+        ensures { entries_left result ≡ self.now }
+    {
+        EntryIter {
+            stored: self.stored,
+            statements: self.statements,
+            replies: self.replies,
+        }
+    }
+
     /// The entry at a place, from 0, if there is one.
     pub fn get(&self, place: usize) -> Option<EntryRef<'a>>
         ensures { option_map entry_in result ≡ slice_get self.now place }
     {
         let stored = self.stored.get(place)?;
-        Some(EntryRef {
-            caller: stored.caller,
-            event: event(self.statements, self.replies, stored.event),
-        })
+        Some(entry(self.statements, self.replies, *stored))
+    }
+}
+
+/// The entries of a history that are still to come, the earliest first.
+#[derive(Drop)]
+pub struct EntryIter<'a> {
+    stored: &'a [Stored],
+    statements: &'a [Stmt],
+    replies: &'a [RunReply],
+    ghost within: { IsTrue (are_within statements.now replies.now stored.now) },
+}
+
+impl<'a> Iterator for EntryIter<'a> {
+    ghost use Rattle.std.specs.Iterator.{item_count};
+    ghost use Rattle.hr_entries.specs.Rest.{entries_left, GivesEntry};
+
+    type Item = EntryRef<'a>;
+
+    ghost next_gives = { GivesEntry };
+
+    ghost remaining = { item_count entries_left };
+
+    fn next(&mut self) -> Option<EntryRef<'a>> {
+        match self.stored {
+            [first, rest @ ..] => {
+                self.stored = rest;
+                Some(entry(self.statements, self.replies, *first))
+            }
+            [] => None,
+        }
+    }
+}
+
+// The entry that a stored one stands for.
+fn entry<'a>(statements: &'a [Stmt], replies: &'a [RunReply], stored: Stored) -> EntryRef<'a>
+    requires { IsTrue (is_within (length statements.now) (length replies.now) stored.event) }
+    ensures { entry_in result ≡ entry_of statements.now replies.now stored }
+{
+    EntryRef {
+        caller: stored.caller,
+        event: event(statements, replies, stored.event),
     }
 }
 

@@ -5,5 +5,5 @@
 mod lent;
 mod stored;
 
-pub use lent::{Entries, EntryRef, EventRef, ReplyRef};
+pub use lent::{Entries, EntryIter, EntryRef, EventRef, ReplyRef};
 pub use stored::{Stored, StoredEvent};
