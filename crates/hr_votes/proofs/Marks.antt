@@ -3,6 +3,7 @@ use Rattle.std.proofs.Common.{◌≡◌, ◌⊎◌, inl, inr, ℕ, zero, suc, �
 use Rattle.std.proofs.lemmas.List.{length-replicate, get_or-set_other}
 use Rattle.std.proofs.lemmas.List.Folds.{list_any-append}
 use Rattle.hr_base.specs.Lists.{has}
+use Rattle.hr_base.specs.declared.limits.TheConstants.{MAX_SUBMITS}
 use Rattle.hr_base.proofs.Tests.{or_first, or_second, or_split}
 use Rattle.hr_base.proofs.ListLaws.{has_head, has_one}
 use Rattle.hr_records.proofs.Places.{same_or_not}
@@ -111,8 +112,8 @@ pub known_grown : (entries before now : List ℕ) (t u : ℕ) → Grown before n
 known_grown entries before now t u (inl same) known = subst (λ xs. IsKnown entries xs u) (sym same) known
 known_grown entries before now t u (inr more) known = subst (λ xs. IsKnown entries xs u) (sym more) (known_still entries before (t ∷ []) u known)
 
--- no more were found than marks are set, which are 4000 at most
-pub most_found : (entries : List ℕ) (w : Walk) → IsWalk entries w → w.found ≤ 4000
+-- no more were found than marks are set, which are no more than there may be entries
+pub most_found : (entries : List ℕ) (w : Walk) → IsWalk entries w → w.found ≤ MAX_SUBMITS
 most_found entries w h = omega (arith, h.count, h.marks, set_most w.marks)
 
 pub got_taken : (xs : List ℕ) (n i : ℕ) → i < n → n ≤ length xs → slice_get (take n xs) i ≡ Some (get_or xs i 0)
@@ -125,7 +126,7 @@ nothing_told : (entries : List ℕ) (n p t : ℕ) → get_or (replicate n false)
 nothing_told entries n p t h = cc (sym (none_set n p) ∙ h)
 
 -- a walk with no mark set found nobody
-pub fresh_walk : (entries : List ℕ) (n : ℕ) → n ≡ 4000 → IsWalk entries record { marks = replicate n false; queue = replicate n 0; found = 0 }
+pub fresh_walk : (entries : List ℕ) (n : ℕ) → n ≡ MAX_SUBMITS → IsWalk entries record { marks = replicate n false; queue = replicate n 0; found = 0 }
 fresh_walk entries n e = record {
   marks = length-replicate n false ∙ e;
   queue = length-replicate n 0 ∙ e;

@@ -1,6 +1,7 @@
 -- Not to be believed: what the walk along waits keeps.
 use Rattle.std.specs.Prelude.{◌≡◌, ◌⊎◌, ℕ, suc, Bool, true, false, if◌then◌else◌, List, [], ◌∷◌, ◌++◌, length, take, slice_get, slice_index_or, Some, IsTrue}
 use Rattle.hr_base.specs.Lists.{has}
+use Rattle.hr_base.specs.declared.limits.TheConstants.{MAX_SUBMITS}
 use Rattle.hr_engine.specs.Waits.{Leads}
 use Rattle.hr_votes.specs.declared.walk.Walk.{Walk}
 
@@ -15,8 +16,8 @@ found_of w = take w.found w.queue
 
 -- as many were found as marks are set, and a mark is set only of one that was found
 pub record IsWalk (entries : List ℕ) (w : Walk) : Type 0 where
-  pub marks : length w.marks ≡ 4000
-  pub queue : length w.queue ≡ 4000
+  pub marks : length w.marks ≡ MAX_SUBMITS
+  pub queue : length w.queue ≡ MAX_SUBMITS
   pub count : w.found ≡ set_marks w.marks
   pub told : (p t : ℕ) → slice_index_or w.marks p false ≡ true → slice_get entries p ≡ Some t → has (found_of w) t ≡ true
 

@@ -5,11 +5,12 @@ ghost use Rattle.hr_history.specs.Processed.{wait_in};
 ghost use Rattle.hr_moves.specs.Kept.{entries_in};
 ghost use Rattle.hr_votes.specs.Walked.{found_of, IsWalk, IsKnown, GrowsBy, LeadsOn, StaysClear};
 
+use hr_base::limits::MAX_SUBMITS;
 use hr_engine::TxnId;
 use hr_progress::View;
 
 /// How many entries a replica has at most: each is of a transaction that a statement was submitted of.
-const MAX_ENTRIES: usize = 4000;
+const MAX_ENTRIES: usize = MAX_SUBMITS as usize;
 
 /// A walk along waits.
 #[derive(Drop)]

@@ -1,4 +1,5 @@
 use Rattle.std.proofs.Common.{◌-◌}
+use Rattle.hr_base.specs.declared.limits.TheConstants.{MAX_SUBMITS}
 use Rattle.hr_history.specs.Processed.{wait_in}
 use Rattle.hr_moves.specs.Kept.{entries_in}
 use Rattle.hr_votes.specs.Walked.{found_of, IsWalk}
@@ -12,4 +13,4 @@ invariant-walk l = record {
 }
 
 abbrev pub decreases-walk : goal.decreases-walk
-decreases-walk l = 4000 - l.next
+decreases-walk l = MAX_SUBMITS - l.next
