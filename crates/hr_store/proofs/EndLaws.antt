@@ -1,5 +1,5 @@
 -- What the end of a transaction does, place by place.
-use Rattle.std.proofs.Common.{◌≡◌, ℕ, Bool, true, false, ◌||◌, if◌then◌else◌, Option, Some, None, List, [], ◌∷◌, refl, ap, sym, subst, ◌∙◌}
+use Rattle.std.proofs.Common.{◌≡◌, ℕ, Bool, true, false, ◌||◌, if◌then◌else◌, Option, Some, None, List, refl, ap, sym, ◌∙◌}
 use Rattle.hr_store.specs.declared.cell.Cell.{Cell}
 use Rattle.hr_store.specs.declared.ending.Ending.{Ending}
 use Rattle.hr_store.specs.declared.ending.Ending.TheVariants.{Commit, Rollback}

@@ -1,12 +1,12 @@
 -- What a change of many rows does at each place.
-use Rattle.std.specs.Prelude.{◌≡◌, ℕ, ℤ, Bool, true, false, if◌then◌else◌, Option, Some, None, List, IsSome}
+use Rattle.std.specs.Prelude.{◌≡◌, ℕ, ℤ, Bool, true, if◌then◌else◌, Option, Some, None, List, IsSome}
 use Rattle.std.specs.List.{list_any, find}
 use Rattle.std.specs.BTreeMap.{BTreeMap, get, is_at}
 use Rattle.hr_rel.specs.declared.value.Value.{Value}
 use Rattle.hr_store.specs.declared.place.Place.{Place}
 use Rattle.hr_store.specs.declared.cell.Cell.{Cell}
 use Rattle.hr_store.specs.Places.{place_cmp, place_of, belongs_at}
-use Rattle.hr_store.specs.Cells.{with_pending, held_at, written_by, is_listed}
+use Rattle.hr_store.specs.Cells.{with_pending, written_by, is_listed}
 
 -- whether one of the rows of a table belongs at the place
 abbrev pub is_any_at : ℕ → List (List Value) → Place → Bool

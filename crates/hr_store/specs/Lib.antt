@@ -2,4 +2,5 @@ pub mod Places
 pub mod Cells
 pub mod Changes
 pub mod Loads
+pub mod Scans
 pub mod Store

@@ -1,5 +1,5 @@
 -- The rows with which a store starts.
-use Rattle.std.specs.Prelude.{ℕ, ◌+◌, if◌then◌else◌, Option, Some, None, List, [], ◌∷◌}
+use Rattle.std.specs.Prelude.{ℕ, ◌+◌, if◌then◌else◌, Some, None, List, [], ◌∷◌}
 use Rattle.hr_rel.specs.declared.value.Value.{Value}
 use Rattle.hr_store.specs.declared.place.Place.{Place}
 use Rattle.hr_store.specs.declared.cell.Cell.{Cell}

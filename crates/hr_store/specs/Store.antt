@@ -7,6 +7,7 @@ use Rattle.hr_store.specs.Places.{place_of}
 use Rattle.hr_store.specs.Cells.{empty_cell, held_at}
 use Rattle.hr_store.specs.Changes.{after_put, after_remove}
 use Rattle.hr_store.specs.Loads.{all_loaded}
+use Rattle.hr_store.specs.Scans.{all_committed, keys_seen, cells_between}
 
 -- what stands at a key of a table
 abbrev pub cell_at : Store → ℕ → ℤ → Cell
@@ -23,3 +24,19 @@ put_cell txn into rows table key cell = after_put txn into rows (place_of table 
 -- what stands there after a remove from a table: where the key is among these, it is pending that there is no row
 abbrev pub remove_cell : ℕ → ℕ → List ℤ → ℕ → ℤ → Cell → Cell
 remove_cell txn from keys table key cell = after_remove txn from keys (place_of table key) cell
+
+-- how many tables there are
+abbrev pub tables_of : Store → ℕ
+tables_of store = store.tables
+
+-- how many keys were handed out
+abbrev pub handed_of : Store → ℕ
+handed_of store = store.handed
+
+-- the keys of a table from one to another at which a transaction sees a row, in order
+abbrev pub keys_found : ℕ → ℕ → ℤ → ℤ → Store → List ℤ
+keys_found txn table low high store = keys_seen txn (cells_between table low high store.cells.entries)
+
+-- the committed rows of each table, in the order of keys
+abbrev pub dumped : Store → List (List (List Value))
+dumped store = all_committed store.tables store.cells.entries

@@ -7,6 +7,7 @@ mod changes;
 mod ending;
 mod load;
 mod place;
+mod scan;
 mod store;
 mod written;
 

@@ -1,5 +1,5 @@
 //! The rows with which a store starts.
-ghost use Rattle.std.specs.Prelude.{◌≡◌, if◌then◌else◌, OnOk};
+ghost use Rattle.std.specs.Prelude.{◌≡◌, if◌then◌else◌, length, IfOk, OnOk};
 ghost use Rattle.std.specs.BTreeMap.{is_at};
 ghost use Rattle.hr_store.specs.Places.{place_cmp};
 ghost use Rattle.hr_store.specs.Cells.{held_at};
@@ -11,16 +11,17 @@ use crate::place::Place;
 use hr_rel::{Row, Table, TryCopy};
 use std::alloc::{AllocError, Global};
 
-/// Commits the rows of each table. An error is want of memory.
-pub fn load_tables(alloc: Global, cells: &mut Cells, tables: &[Table]) -> Result<(), AllocError>
-    ensures { OnOk result ((q : _) → held_at cells.new q ≡ all_loaded 0 tables.now q (held_at cells.old q)) }
+/// Commits the rows of each table, and tells how many tables there are. An error is want of memory.
+pub fn load_tables(alloc: Global, cells: &mut Cells, tables: &[Table]) -> Result<u32, AllocError>
+    ensures count { IfOk result (λ count. count ≡ length tables.now) }
+    ensures loaded { OnOk result ((q : _) → held_at cells.new q ≡ all_loaded 0 tables.now q (held_at cells.old q)) }
 {
-    let mut number = 0;
+    let mut number = 0u32;
     'tables: for table in tables {
         load(alloc, cells, number, table.as_slice())?;
         number = number.checked_add(1).ok_or(AllocError)?;
     }
-    Ok(())
+    Ok(number)
 }
 
 /// Commits rows of a table.

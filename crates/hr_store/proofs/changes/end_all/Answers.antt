@@ -3,7 +3,7 @@ use Rattle.std.specs.BTreeMap.{is_at}
 use Rattle.std.proofs.lemmas.List.{drop_more}
 use Rattle.hr_store.specs.Places.{place_cmp, place_of}
 use Rattle.hr_store.specs.Cells.{held_at, is_listed}
-use Rattle.hr_store.proofs.EndLaws.{step_same, step_listed, nothing_left}
+use Rattle.hr_store.proofs.EndLaws.{step_same, step_listed}
 use Rattle.hr_store.proofs.changes.end_all.Goals as goal
 
 pub places-preserved : goal.places-preserved

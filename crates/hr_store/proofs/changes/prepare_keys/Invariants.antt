@@ -1,4 +1,4 @@
-use Rattle.std.proofs.Common.{◌≡◌, ℕ, true, take, IsSome}
+use Rattle.std.proofs.Common.{◌≡◌, ℕ, true, take}
 use Rattle.hr_store.specs.declared.place.Place.{Place}
 use Rattle.hr_store.specs.Cells.{held_at, written_by, is_listed}
 use Rattle.hr_store.specs.Changes.{IsReady, is_key_at}

@@ -9,9 +9,9 @@ use Rattle.hr_store.specs.Store.{cell_at}
 use Rattle.hr_store.proofs.EndLaws.{nothing_pending}
 use Rattle.hr_store.proofs.store.Store.forget.Goals as goal
 
-pub returns : goal.returns
-returns c = λ t k.
+pub returns-clause-cells : goal.returns-clause-cells
+returns-clause-cells c = λ t k.
     let empty : c.txns.self.written.entries ≡ [] = search rules in
     sym (nothing_pending (cell_at c.txns.self t k)
     (λ u p. subst (λ es. is_listed (place_of t k) (unwrap_or (lookup (is_at (nat_cmp u)) es) []) ≡ true) empty (c.txns.self.listed u (place_of t k) p)))
-    ∙ c.txns.invariant t k
+    ∙ c.txns.invariant.cells t k

@@ -1,4 +1,4 @@
-use Rattle.std.proofs.Common.{rules, ◌≡◌, None, ap, sym, ◌∙◌}
+use Rattle.std.proofs.Common.{◌≡◌, None, ap, sym, ◌∙◌}
 use Rattle.std.specs.Prelude.{unwrap_or}
 use Rattle.std.specs.Map.{lookup}
 use Rattle.std.specs.BTreeMap.{is_at}
@@ -12,6 +12,6 @@ invariant_of-result c = record {
   listed = λ u q pending.
       let nothing : (held_at c.new-cells.result q).pending ≡ None = ap (λ es. (unwrap_or (lookup (is_at (place_cmp q)) es) empty_cell).pending) c.new-cells.ensures.empty in
       let none : (held_at c.load_tables.new.cells q).pending ≡ None =
-      ap (λ cell. cell.pending) (c.in_ok-load_tables.ensures q) ∙ all_loaded_pending 0 c.as_slice.result.now q (held_at c.new-cells.result q) nothing in
+      ap (λ cell. cell.pending) (c.in_ok-tables.ensures.loaded q) ∙ all_loaded_pending 0 c.as_slice.result.now q (held_at c.new-cells.result q) nothing in
       cc (sym (ap (is_of u) none) ∙ pending);
 }

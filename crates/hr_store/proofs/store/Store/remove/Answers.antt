@@ -1,4 +1,4 @@
-use Rattle.std.proofs.Common.{rules, ◌≡◌, ⊎_elim, true, ap, sym, subst, ◌∙◌}
+use Rattle.std.proofs.Common.{◌≡◌, ⊎_elim, true, ap, sym, subst, ◌∙◌}
 use Rattle.hr_store.specs.Cells.{is_pending_of, is_listed, held_at, written_by}
 use Rattle.hr_store.proofs.StoreLaws.{remove_pending}
 use Rattle.hr_store.proofs.store.Store.remove.Goals as goal
