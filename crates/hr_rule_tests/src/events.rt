@@ -11,9 +11,9 @@ use std::alloc::{AllocError, Global};
 /// Three replicas, and so many open transactions with a statement each.
 pub fn three_with_open(alloc: Global, open: u64) -> Result<View, AllocError> {
     let mut view = View::new(alloc, 1)?;
-    for txn in 1..open + 1 {
+    for before in 0..open {
         view.begin(alloc, 1)?;
-        submit(&mut view, txn)?;
+        submit(&mut view, before + 1)?;
     }
     Ok(view)
 }
