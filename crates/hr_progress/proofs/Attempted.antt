@@ -17,7 +17,7 @@ use Rattle.hr_moves.specs.Sane.{cut_to}
 use Rattle.hr_moves.specs.Moves.{free, with_answer, with_waits, ended_among, lose}
 use Rattle.hr_sane.proofs.KeptLists.{one_more_in}
 use Rattle.hr_progress.specs.declared.attempt.Told.{Told}
-use Rattle.hr_progress.specs.Plain.{PlainAttempt, PlainProgress, idle_attempt, plain_attempt_in, with_entry, to_answered, to_waiting, to_idle, with_answered, with_waiting, with_ended, with_loss}
+use Rattle.hr_progress.specs.Plain.{PlainAttempt, PlainProgress, idle_attempt, plain_attempt_in, with_entry, to_answered, to_waiting, to_idle, to_idle_entry, with_answered, with_waiting, with_ended, with_loss}
 use Rattle.hr_progress.specs.Seen.{answer_at, waits_in, waits_at, began_before, runs_since, seen_last, seen_attempt, seen_entry, seen_replica}
 use Rattle.hr_progress.specs.Kept.{is_answer, is_wait, AreAnswers, told_places, IsTold, AreTold, touched_of}
 use Rattle.hr_progress.proofs.Attempts.{entries_changed, lookup_entry, attempt_kept, told_entry, not_has}
@@ -227,14 +227,14 @@ told_ended t replies es are = told_entry t to_idle replies (λ a h. idle_told re
 -- ---- a loss
 
 module _ (replies : List RunReply) (fresh : Option Fresh) (r : ℕ) where
-  lost_left : (all es now : List (ℕ × PlainAttempt)) → map (seen_entry replies fresh r all) (map (λ (e : ℕ × PlainAttempt). (e.0, idle_attempt)) es) ≡ map (λ (e : ℕ × Attempt). (e.0, no_attempt)) (map (seen_entry replies fresh r now) es)
+  lost_left : (all es now : List (ℕ × PlainAttempt)) → map (seen_entry replies fresh r all) (map to_idle_entry es) ≡ map (λ (e : ℕ × Attempt). (e.0, no_attempt)) (map (seen_entry replies fresh r now) es)
   lost_left all [] now = refl
   lost_left all (e ∷ es) now = ap (λ xs. (e.0, no_attempt) ∷ xs) (lost_left all es now)
 
   pub seen_loss : (in_doubt : Bool) (q : PlainProgress) → seen_replica replies fresh r (with_loss in_doubt q) ≡ lose in_doubt (seen_replica replies fresh r q)
   seen_loss in_doubt q = λ i. record (lose in_doubt (seen_replica replies fresh r q)) { attempts = lost_left (with_loss in_doubt q).attempts q.attempts q.attempts i }
 
-pub told_lost : (replies : List RunReply) (es : List (ℕ × PlainAttempt)) → AreTold replies (map (λ (e : ℕ × PlainAttempt). (e.0, idle_attempt)) es)
+pub told_lost : (replies : List RunReply) (es : List (ℕ × PlainAttempt)) → AreTold replies (map to_idle_entry es)
 told_lost replies [] = tt
 told_lost replies (e ∷ es) = (idle_told replies, told_lost replies es)
 
@@ -262,15 +262,15 @@ touched_less t n es = filter_both (λ u. not (u == t)) (λ u. (plain_attempt_in 
     by true u e = sym (ap (λ k. (plain_attempt_in (with_entry t to_idle es) k).touched) (eqb-true u t e) ∙ ap (λ o. (unwrap_or o idle_attempt).touched) (lookup_entry t to_idle t es) ∙ idle (lookup (nat_eq t) es))
     by false u e = sym (ap (λ o. (unwrap_or o idle_attempt).touched) (lookup_entry t to_idle u es) ∙ ap (λ (x : PlainAttempt). x.touched) (got_else to_idle t u (lookup (nat_eq u) es) idle_attempt (λ same. no (eq-eqb u t same) e)))
 
-pub touched_gone : (n : ℕ) (es : List (ℕ × PlainAttempt)) → [] ≡ touched_of n (map (λ (e : ℕ × PlainAttempt). (e.0, idle_attempt)) es)
+pub touched_gone : (n : ℕ) (es : List (ℕ × PlainAttempt)) → [] ≡ touched_of n (map to_idle_entry es)
 touched_gone n es = sym (none (one_to n))
   where
     idle : (u : ℕ) (o : Option PlainAttempt) → (unwrap_or (option_map (λ (a : PlainAttempt). idle_attempt) o) idle_attempt).touched ≡ false
     idle u None = refl
     idle u (Some a) = refl
 
-    each : (u : ℕ) → (plain_attempt_in (map (λ (e : ℕ × PlainAttempt). (e.0, idle_attempt)) es) u).touched ≡ false
+    each : (u : ℕ) → (plain_attempt_in (map to_idle_entry es) u).touched ≡ false
     each u = ap (λ o. (unwrap_or o idle_attempt).touched) (lookup_map (λ k a. idle_attempt) u es) ∙ idle u (lookup (nat_eq u) es)
 
-    none : (xs : List ℕ) → filter (λ u. (plain_attempt_in (map (λ (e : ℕ × PlainAttempt). (e.0, idle_attempt)) es) u).touched) xs ≡ []
+    none : (xs : List ℕ) → filter (λ u. (plain_attempt_in (map to_idle_entry es) u).touched) xs ≡ []
     none xs = filter_same_test _ (λ u. false) xs each ∙ filter_nothing xs

@@ -37,6 +37,14 @@ answer_of (Some (run.Deadlock cycle)) answer e = cc
 answer_of (Some run.Lost) answer e = cc
 answer_of (Some run.NoMemory) answer e = cc
 
+pub stands_there : (o : Option RunReply) (other answer : Answer) → done_in o ≡ Some other → other ≡ answer → o ≡ Some (run.Done answer)
+stands_there (Some (run.Done x)) other answer e same = ap (λ y. Some (run.Done y)) (ap (λ p. unwrap_or p x) e ∙ same)
+stands_there None other answer e same = cc
+stands_there (Some (run.Blocked named)) other answer e same = cc
+stands_there (Some (run.Deadlock cycle)) other answer e same = cc
+stands_there (Some run.Lost) other answer e same = cc
+stands_there (Some run.NoMemory) other answer e same = cc
+
 pub no_answer : (o : Option RunReply) → None ≡ done_in o → is_answer o ≡ true → ⊥
 no_answer (Some (run.Done other)) e h = cc
 no_answer None e h = cc

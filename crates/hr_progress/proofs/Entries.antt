@@ -7,8 +7,11 @@ use Rattle.indexmap.specs.IndexMap.{set_value_at, insert_entry}
 use Rattle.hr_base.specs.Lists.{has}
 use Rattle.hr_base.proofs.Tests.{eq_turn, or_first, or_second}
 use Rattle.hr_progress.specs.declared.attempt.Attempt.{Attempt}
-use Rattle.hr_progress.specs.Plain.{PlainAttempt, key, idle_attempt, and_entry, plain_attempt, plain_entry, with_entry}
+use Rattle.hr_progress.specs.Plain.{PlainAttempt, to_idle_entry, key, idle_attempt, and_entry, plain_attempt, plain_entry, with_entry}
 use Rattle.hr_progress.proofs.Parts.{lookup_map}
+use Rattle.hr_progress.proofs.Changed.{changed_here, unchanged_else, past, length_from}
+use Rattle.hr_moves.specs.Changes.{map_from, change_at}
+use Rattle.std.proofs.lemmas.List.{length-map}
 
 -- the i-th entry is the first of transaction t
 abbrev pub IsFirstOf : {X : Type 0} → ℕ → List (ℕ × X) → ℕ → Type 0
@@ -122,3 +125,12 @@ entry_there t es h = sym (ap (λ b. cond b es (es ++ (t, idle_attempt) ∷ [])) 
 
 pub entry_new : (t : ℕ) (es : List (ℕ × PlainAttempt)) → has (map key es) t ≡ false → es ++ (t, idle_attempt) ∷ [] ≡ and_entry t es
 entry_new t es h = sym (ap (λ b. cond b es (es ++ (t, idle_attempt) ∷ [])) h)
+
+-- the i-th entry is as if it had never begun
+pub idle_set : (es : List (ℕ × Attempt)) (i n m : ℕ) (y : Attempt) → m ≡ n + i → i < length es → plain_attempt y ≡ idle_attempt → map plain_entry (set_value_at es i y) ≡ map_from (change_at m to_idle_entry) n (map plain_entry es)
+idle_set [] i n m y e h idle = absurd (omega (arith, h))
+idle_set (x ∷ es) zero n m y e h idle = λ j. (ap (λ a. (x.0, a)) idle ∙ sym (changed_here m n to_idle_entry (plain_entry x) (omega (arith, e)))) j ∷ sym (past to_idle_entry m (n + 1) (map plain_entry es) (omega (arith, e))) j
+idle_set (x ∷ es) (suc i) n m y e h idle = λ j. sym (unchanged_else m n to_idle_entry (plain_entry x) (λ q. omega (arith, e, q))) j ∷ idle_set es i (n + 1) m y (omega (arith, e)) (omega (arith, h)) idle j
+
+pub as_many : (now first : List (ℕ × Attempt)) (g : ℕ → ℕ × PlainAttempt → ℕ × PlainAttempt) → map plain_entry now ≡ map_from g 0 (map plain_entry first) → length now ≡ length first
+as_many now first g e = sym (length-map now plain_entry) ∙ ap length e ∙ length_from g 0 (map plain_entry first) ∙ length-map first plain_entry

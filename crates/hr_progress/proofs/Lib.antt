@@ -25,3 +25,7 @@ pub mod Rounds
 pub mod Replied
 pub mod Takes
 pub mod Attempted
+pub mod Least
+pub mod Gives
+pub mod Ordered
+pub mod Dones

@@ -51,14 +51,14 @@ on_ok (Ok x) p = p
 on_ok (Err e) p = tt
 
 module _ (p : ℕ → Bool) where
-  rest_of : (x : ℕ) (xs : List ℕ) (n : ℕ) → suc n ≤ length (take_while p (x ∷ xs)) → (p x ≡ true) × (n ≤ length (take_while p xs))
+  pub rest_of : (x : ℕ) (xs : List ℕ) (n : ℕ) → suc n ≤ length (take_while p (x ∷ xs)) → (p x ≡ true) × (n ≤ length (take_while p xs))
   rest_of x xs n h = by (p x) refl (subst (λ ys. suc n ≤ length ys) (take_while-cons p x xs) h)
     where
       by : (b : Bool) → p x ≡ b → suc n ≤ length (cond b (x ∷ take_while p xs) []) → (p x ≡ true) × (n ≤ length (take_while p xs))
       by true e g = (e, omega (arith, g))
       by false e g = absurd (omega (arith, g))
 
-  passing : (x : ℕ) (xs : List ℕ) → p x ≡ true → length (take_while p (x ∷ xs)) ≡ suc (length (take_while p xs))
+  pub passing : (x : ℕ) (xs : List ℕ) → p x ≡ true → length (take_while p (x ∷ xs)) ≡ suc (length (take_while p xs))
   passing x xs e = ap length (take_while-cons p x xs ∙ ap (λ b. cond b (x ∷ take_while p xs) []) e)
 
   -- one more passes
@@ -123,3 +123,7 @@ last_got (x ∷ y ∷ xs) =
     let here : suc (suc (length xs)) - 1 ≡ suc (length xs) = omega arith in
     let there : length xs ≡ suc (length xs) - 1 = omega arith in
     ap (slice_get (x ∷ y ∷ xs)) here ∙ ap (slice_get (y ∷ xs)) there ∙ last_got (y ∷ xs)
+
+pub txn_found : (xs : List TxnState) (t : ℕ) (x : TxnState) → 1 ≤ t → t ≤ length xs → x ≡ slice_index_or xs (t - 1) x → plain_txn_in (map plain_txn xs) t ≡ plain_txn x
+txn_found xs t x first last at =
+    txn_at xs t (λ e. omega (arith, e, first)) ∙ ap (λ o. unwrap_or (option_map plain_txn o) no_txn) (slice_get_read xs (length xs) (t - 1) x refl (omega (arith, first, last)) at)

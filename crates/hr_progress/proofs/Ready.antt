@@ -9,7 +9,7 @@ use Rattle.hr_moves.specs.Changes.{map_from, change_at}
 use Rattle.hr_progress.specs.declared.attempt.Attempt.{Attempt}
 use Rattle.hr_progress.specs.declared.progress.Progress.{Progress}
 use Rattle.hr_progress.specs.Plain.{PlainProgress, plain_progress, idle_progress}
-use Rattle.hr_progress.specs.Kept.{is_run, runs_out, IsRoomy, HasAnswerRoom, IsReady, IsReadyFor, AreReady}
+use Rattle.hr_progress.specs.Kept.{is_run, is_run_of, runs_out, IsRoomy, HasAnswerRoom, IsReady, IsReadyFor, AreReady}
 use Rattle.hr_progress.proofs.Entries.{IsFirstOf}
 
 no : {b : Bool} → b ≡ true → b ≡ false → ⊥
@@ -160,3 +160,11 @@ ready_other (job.Run t i) touched room es e = absurd (no refl e)
 ready_other (job.Commit t) touched room es e = tt
 ready_other (job.Rollback t) touched room es e = tt
 ready_other job.Restart touched room es e = tt
+
+-- where a run of t is out, its answer and its transaction have their places
+pub run_ready : (t : ℕ) (o : Option Job) (touched room : ℕ) (es : List (ℕ × Attempt)) → is_run_of t o ≡ true → IsReadyFor o touched room es → (touched < room) × HasAnswerRoom t es
+run_ready t (Some (job.Run u i)) touched room es e ready = (ready.0, subst (λ k. HasAnswerRoom k es) (eqb-true u t e) ready.1)
+run_ready t None touched room es e ready = absurd (no e refl)
+run_ready t (Some (job.Commit u)) touched room es e ready = absurd (no e refl)
+run_ready t (Some (job.Rollback u)) touched room es e ready = absurd (no e refl)
+run_ready t (Some job.Restart) touched room es e ready = absurd (no e refl)

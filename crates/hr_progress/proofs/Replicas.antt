@@ -21,7 +21,7 @@ pub within_code : (qs : List code.Progress) (r : ℕ) → r < length (map plain_
 within_code qs r h = omega (arith, h, length-map qs plain_progress)
 
 -- what holds of one, and of it changed, holds of each
-held : {X : Type 0} (P : X → Type 0) (g : X → X) (r s : ℕ) (o : Option X) (d : X) → (s ≡ r → P (unwrap_or o d) → P (g (unwrap_or o d))) → P (unwrap_or o d) → P (unwrap_or (option_map (change_at r g s) o) d)
+pub held : {X : Type 0} (P : X → Type 0) (g : X → X) (r s : ℕ) (o : Option X) (d : X) → (s ≡ r → P (unwrap_or o d) → P (g (unwrap_or o d))) → P (unwrap_or o d) → P (unwrap_or (option_map (change_at r g s) o) d)
 held P g r s None d more h = h
 held {X} P g r s (Some x) d more h = by (s == r) refl more h
   where

@@ -118,6 +118,12 @@ abbrev pub is_run_of : ℕ → Option Job → Bool
 is_run_of t (Some (job.Run u i)) = u == t
 is_run_of t _ = false
 
+-- whether a loss leaves the commit that is out in doubt; at a rollback it doesn't
+abbrev pub loses : Option Job → Option Bool
+loses (Some (job.Commit t)) = Some true
+loses (Some (job.Rollback t)) = Some false
+loses _ = None
+
 -- how many runs are out
 abbrev pub runs_out : List PlainProgress → ℕ
 runs_out [] = 0

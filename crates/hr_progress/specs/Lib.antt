@@ -2,3 +2,4 @@ pub mod Plain
 pub mod Seen
 pub mod Kept
 pub mod View
+pub mod GivenTo

@@ -157,6 +157,9 @@ to_waiting place a = record a { last = Some place; touched = true }
 abbrev pub to_idle : PlainAttempt → PlainAttempt
 to_idle a = idle_attempt
 
+abbrev pub to_idle_entry : ℕ × PlainAttempt → ℕ × PlainAttempt
+to_idle_entry e = (e.0, idle_attempt)
+
 abbrev pub with_answered : ℕ → Told → ℕ → PlainProgress → PlainProgress
 with_answered t told n q = record q { out = None; attempts = with_entry t (to_answered told n) q.attempts; touched = and_in_order t q.touched }
 
@@ -165,7 +168,7 @@ with_waiting t place q = record q { out = None; attempts = with_entry t (to_wait
 
 -- lost, perhaps with a commit in doubt
 abbrev pub with_loss : Bool → PlainProgress → PlainProgress
-with_loss in_doubt q = record q { lost = true; doubt = in_doubt; out = None; attempts = map (λ (e : ℕ × PlainAttempt). (e.0, idle_attempt)) q.attempts; touched = [] }
+with_loss in_doubt q = record q { lost = true; doubt = in_doubt; out = None; attempts = map to_idle_entry q.attempts; touched = [] }
 
 -- a transaction ended
 abbrev pub with_ended : ℕ → PlainProgress → PlainProgress

@@ -52,8 +52,8 @@ fn same_at(replies: &[RunReply], a: usize, b: usize) -> bool
     }
 }
 
-// The answer that stands at a place, if one does.
-fn done_at(replies: &[RunReply], place: usize) -> Option<&Answer>
+/// The answer that stands at a place, if one does.
+pub fn done_at(replies: &[RunReply], place: usize) -> Option<&Answer>
     ensures { option_copied result ≡ done_in (slice_get replies.now place) }
 {
     match replies.get(place) {

@@ -1,9 +1,10 @@
 //! A transaction at a replica, as the view keeps it.
-ghost use Rattle.std.specs.Prelude.{◌≡◌, ◌≤◌, ◌<◌, ℕ, None, Some, [], ◌∷◌, ◌++◌, length, map, nat_eq, OnOk, OnErr};
+ghost use Rattle.std.specs.Prelude.{◌≡◌, ◌≤◌, ◌<◌, ℕ, None, Some, [], ◌∷◌, ◌++◌, if◌then◌else◌, vec_len, vec_capacity, length, map, nat_eq, OnOk, OnErr};
 ghost use Rattle.std.specs.Map.{lookup};
+ghost use Rattle.hr_base.specs.Lists.{is_empty};
 ghost use Rattle.hr_base.specs.declared.limits.TheConstants.{MAX_SUBMITS};
 ghost use Rattle.hr_progress.specs.Kept.{IsRoomy, HasAnswerRoom};
-ghost use Rattle.hr_progress.specs.Plain.{plain_attempt, plain_entry, plain_attempt_in, idle_attempt, and_entry, with_entry, to_preempted};
+ghost use Rattle.hr_progress.specs.Plain.{plain_attempt, plain_entry, plain_attempt_in, idle_attempt, and_entry, with_entry, to_preempted, to_answered, to_waiting, to_idle, to_idle_entry};
 
 use hr_base::limits::MAX_SUBMITS;
 use hr_engine::TxnId;
@@ -52,6 +53,73 @@ pub fn preempt(attempts: &mut IndexMap<TxnId, Attempt>, txn: TxnId)
         let attempt = &mut attempts[place];
         attempt.preempted = true;
     }
+}
+
+/// One statement more is answered. The newest reply has this place, and the answer stands at its own or at an earlier one.
+pub fn answer(attempts: &mut IndexMap<TxnId, Attempt>, txn: TxnId, told: Told, newest: usize)
+    requires { HasAnswerRoom txn attempts.old.entries }
+    ensures { map plain_entry attempts.new.entries ≡ with_entry txn (to_answered told newest) (map plain_entry attempts.old.entries) }
+{
+    if let Some(place) = attempts.get_index_of(&txn) {
+        add(&mut attempts[place], told, newest);
+    }
+}
+
+fn add(attempt: &mut Attempt, told: Told, newest: usize)
+    requires { vec_len attempt.old.answers < vec_capacity attempt.old.answers }
+    ensures { plain_attempt attempt.new ≡ to_answered told newest (plain_attempt attempt.old) }
+{
+    attempt.began = begun_at(&attempt.answers, newest, attempt.began);
+    attempt.answers.push_reserved(told);
+    attempt.last = None;
+    attempt.touched = true;
+}
+
+// Where an attempt with these answers begins, if one is added.
+fn begun_at(answers: &[Told], newest: usize, began: usize) -> usize
+    ensures { result ≡ (if is_empty answers.now then newest else began) }
+{
+    if answers.is_empty() { newest } else { began }
+}
+
+/// The reply at this place told it of waits.
+pub fn wait(attempts: &mut IndexMap<TxnId, Attempt>, txn: TxnId, reply: usize)
+    ensures { map plain_entry attempts.new.entries ≡ with_entry txn (to_waiting reply) (map plain_entry attempts.old.entries) }
+{
+    if let Some(place) = attempts.get_index_of(&txn) {
+        let attempt = &mut attempts[place];
+        attempt.last = Some(reply);
+        attempt.touched = true;
+    }
+}
+
+/// A transaction's attempt ended.
+pub fn end(attempts: &mut IndexMap<TxnId, Attempt>, txn: TxnId)
+    ensures { map plain_entry attempts.new.entries ≡ with_entry txn to_idle (map plain_entry attempts.old.entries) }
+{
+    if let Some(place) = attempts.get_index_of(&txn) {
+        reset(&mut attempts[place]);
+    }
+}
+
+/// All attempts ended.
+pub fn end_all(attempts: &mut IndexMap<TxnId, Attempt>)
+    ensures { map plain_entry attempts.new.entries ≡ map to_idle_entry (map plain_entry attempts.old.entries) }
+{
+    'attempts: for place in 0..attempts.len() {
+        reset(&mut attempts[place]);
+    }
+}
+
+// As if it had never begun; the places for its answers stay.
+fn reset(attempt: &mut Attempt)
+    ensures { plain_attempt attempt.new ≡ idle_attempt }
+{
+    attempt.answers.clear();
+    attempt.began = 0;
+    attempt.last = None;
+    attempt.touched = false;
+    attempt.preempted = false;
 }
 
 /// Keeps a place for one answer more of a transaction, which has an entry then. Refuses an entry past the number of

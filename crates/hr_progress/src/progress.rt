@@ -1,5 +1,5 @@
 //! A replica, as the view keeps it.
-ghost use Rattle.std.specs.Prelude.{◌≡◌, ◌+◌, ◌-◌, ◌*◌, ◌^◌, ◌<◌, ◌≤◌, find, length, map, nat_eq, option_copied, position, slice_get, replicate, slice_index, None, Some, false, IfOk, OnOk, OnErr, IsTrue};
+ghost use Rattle.std.specs.Prelude.{◌≡◌, ◌+◌, ◌-◌, ◌*◌, ◌^◌, ◌<◌, ◌≤◌, find, length, map, nat_eq, option_copied, position, slice_get, replicate, slice_index, None, Some, true, false, nat_lt, take_while, vec_len, vec_capacity, IfOk, OnOk, OnErr, IsTrue};
 ghost use Rattle.std.specs.Map.{lookup};
 ghost use Rattle.std.specs.Option.{option_map};
 ghost use Rattle.std.specs.List.{list_any, list_all, range_with_len};
@@ -7,12 +7,14 @@ ghost use Rattle.hr_base.specs.declared.limits.TheConstants.{MAX_SUBMITS};
 ghost use Rattle.hr_history.specs.Primary as primary;
 ghost use Rattle.hr_history.specs.Processed as history;
 ghost use Rattle.hr_moves.specs.Changes.{map_from, change_at};
-ghost use Rattle.hr_progress.specs.Plain.{key, and_entry, with_run, with_out, plain_txn, plain_entry, plain_attempt, plain_progress, plain_attempt_in, plain_replica_in, live_of, idle_progress, to_convicted, with_preempted, with_restart};
+ghost use Rattle.hr_moves.specs.Kept as moves;
+ghost use Rattle.hr_moves.specs.Kept.{and_in_order};
+ghost use Rattle.hr_progress.specs.Plain.{key, and_entry, with_run, with_out, with_answered, with_waiting, with_loss, with_ended, with_commit, to_free, plain_txn, plain_entry, plain_attempt, plain_progress, plain_attempt_in, plain_replica_in, live_of, idle_progress, to_convicted, with_preempted, with_restart};
 ghost use Rattle.hr_progress.specs.Seen as seen;
-ghost use Rattle.hr_progress.specs.Kept.{is_processed_at, processed_of, recounted, restarted, IsLeast, NoneLess, is_run, IsReady, AreReady};
+ghost use Rattle.hr_progress.specs.Kept.{is_processed_at, processed_of, recounted, restarted, IsLeast, NoneLess, is_run, is_run_of, back_to_before, back_to_position, IsReady, AreReady};
 
-use crate::attempt::{Attempt, Told, answered, preempt, prepare};
-use crate::txn::{TxnState, phase_of, statements_of};
+use crate::attempt::{Attempt, Told, answer, answered, end, end_all, preempt, prepare, wait};
+use crate::txn::{TxnState, close, phase_of, statements_of};
 use hr_engine::TxnId;
 use hr_history::{Job, Phase};
 use indexmap::IndexMap;
@@ -393,6 +395,174 @@ pub fn entry_place(replicas: &[Progress], replica: u32, txn: TxnId) -> Option<us
         Some(progress) => progress.attempts.get_index_of(&txn),
         None => None,
     }
+}
+
+/// A statement of a transaction is answered at a replica. The newest reply has this place, and the answer stands at its
+/// own or at an earlier one.
+pub fn answer_at(
+    replicas: &mut Vec<Progress>,
+    replica: u32,
+    txn: TxnId,
+    told: Told,
+    newest: usize,
+    txns: &[TxnState],
+    log: &[TxnId],
+)
+    requires known { replica < length replicas.old.items }
+    requires room { AreReady replicas.old.items }
+    requires out { is_run_of txn (plain_replica_in (map plain_progress replicas.old.items) replica).out ≡ true }
+    requires least { IsLeast (map plain_txn txns.now) log.now (back_to_before (map plain_txn txns.now) txn (with_answered txn told newest (plain_replica_in (map plain_progress replicas.old.items) replica))) }
+    ensures value { map plain_progress replicas.new.items ≡ map_from (change_at replica (λ q. recounted (map plain_txn txns.now) log.now (with_answered txn told newest q))) 0 (map plain_progress replicas.old.items) }
+    ensures room { AreReady replicas.new.items }
+{
+    let progress = &mut replicas[replica as usize];
+    answer(&mut progress.attempts, txn, told, newest);
+    mark(&mut progress.touched, txn);
+    progress.out = None;
+    progress.processed = before_it(phase_of(txns, txn), progress.processed);
+    recount_one(progress, txns, log);
+}
+
+/// A transaction is told of waits at a replica, by the reply at this place.
+pub fn wait_at(replicas: &mut Vec<Progress>, replica: u32, txn: TxnId, reply: usize)
+    requires known { replica < length replicas.old.items }
+    requires room { AreReady replicas.old.items }
+    requires out { is_run_of txn (plain_replica_in (map plain_progress replicas.old.items) replica).out ≡ true }
+    ensures value { map plain_progress replicas.new.items ≡ map_from (change_at replica (with_waiting txn reply)) 0 (map plain_progress replicas.old.items) }
+    ensures room { AreReady replicas.new.items }
+{
+    let progress = &mut replicas[replica as usize];
+    wait(&mut progress.attempts, txn, reply);
+    mark(&mut progress.touched, txn);
+    progress.out = None;
+}
+
+/// A replica is lost, perhaps with a commit in doubt.
+pub fn lose_at(
+    replicas: &mut Vec<Progress>,
+    replica: u32,
+    in_doubt: bool,
+    txns: &[TxnState],
+    log: &[TxnId],
+)
+    requires known { replica < length replicas.old.items }
+    requires room { AreReady replicas.old.items }
+    requires least { IsLeast (map plain_txn txns.now) log.now (back_to_position (with_loss in_doubt (plain_replica_in (map plain_progress replicas.old.items) replica))) }
+    ensures value { map plain_progress replicas.new.items ≡ map_from (change_at replica (λ q. recounted (map plain_txn txns.now) log.now (with_loss in_doubt q))) 0 (map plain_progress replicas.old.items) }
+    ensures room { AreReady replicas.new.items }
+{
+    let progress = &mut replicas[replica as usize];
+    end_all(&mut progress.attempts);
+    progress.touched.clear();
+    progress.lost = true;
+    progress.doubt = in_doubt;
+    progress.out = None;
+    progress.processed = progress.position;
+    recount_one(progress, txns, log);
+}
+
+/// A transaction is rolled back at a replica.
+pub fn roll_back_at(
+    replicas: &mut Vec<Progress>,
+    replica: u32,
+    txn: TxnId,
+    txns: &[TxnState],
+    log: &[TxnId],
+)
+    requires known { replica < length replicas.old.items }
+    requires room { AreReady replicas.old.items }
+    requires least { IsLeast (map plain_txn txns.now) log.now (back_to_before (map plain_txn txns.now) txn (with_ended txn (plain_replica_in (map plain_progress replicas.old.items) replica))) }
+    ensures value { map plain_progress replicas.new.items ≡ map_from (change_at replica (λ q. recounted (map plain_txn txns.now) log.now (with_ended txn q))) 0 (map plain_progress replicas.old.items) }
+    ensures room { AreReady replicas.new.items }
+{
+    let progress = &mut replicas[replica as usize];
+    end(&mut progress.attempts, txn);
+    close(&mut progress.touched, txn);
+    progress.out = None;
+    progress.processed = before_it(phase_of(txns, txn), progress.processed);
+    recount_one(progress, txns, log);
+}
+
+/// A transaction is committed at a replica.
+pub fn commit_at(
+    replicas: &mut Vec<Progress>,
+    replica: u32,
+    txn: TxnId,
+    txns: &[TxnState],
+    log: &[TxnId],
+)
+    requires known { replica < length replicas.old.items }
+    requires room { AreReady replicas.old.items }
+    requires next { (plain_replica_in (map plain_progress replicas.old.items) replica).position + 1 < 2 ^ 64 }
+    requires least { IsLeast (map plain_txn txns.now) log.now (with_commit txn (plain_replica_in (map plain_progress replicas.old.items) replica)) }
+    ensures value { map plain_progress replicas.new.items ≡ map_from (change_at replica (λ q. recounted (map plain_txn txns.now) log.now (with_commit txn q))) 0 (map plain_progress replicas.old.items) }
+    ensures room { AreReady replicas.new.items }
+{
+    let progress = &mut replicas[replica as usize];
+    end(&mut progress.attempts, txn);
+    close(&mut progress.touched, txn);
+    progress.position += 1;
+    progress.out = None;
+    recount_one(progress, txns, log);
+}
+
+/// No job is out at a replica any more.
+pub fn free_at(replicas: &mut Vec<Progress>, replica: u32)
+    requires known { replica < length replicas.old.items }
+    requires room { AreReady replicas.old.items }
+    ensures value { map plain_progress replicas.new.items ≡ map_from (change_at replica to_free) 0 (map plain_progress replicas.old.items) }
+    ensures room { AreReady replicas.new.items }
+{
+    let progress = &mut replicas[replica as usize];
+    progress.out = None;
+}
+
+// Those of so many that come before a transaction, where it is logged.
+fn before_it(phase: Phase, processed: u64) -> u64
+    ensures { result ≡ moves.before_it phase processed }
+{
+    match phase {
+        Phase::Logged(place) if place > 0 => processed.min(place - 1),
+        _ => processed,
+    }
+}
+
+// A transaction has something to roll back: it has its place among the others that have.
+fn mark(touched: &mut Vec<TxnId>, txn: TxnId)
+    requires { vec_len touched.old < vec_capacity touched.old }
+    ensures { touched.new.items ≡ and_in_order txn touched.old.items }
+{
+    let place = lower_than(touched, txn);
+    if stands_at(touched, place, txn) {
+        return;
+    }
+    let Ok(()) = touched.insert(place, txn) else {
+        unreachable!()
+    };
+}
+
+// Whether a transaction stands at a place.
+fn stands_at(txns: &[TxnId], place: usize, txn: TxnId) -> bool
+    ensures { result ≡ primary.is_some_of txn (slice_get txns.now place) }
+{
+    match txns.get(place) {
+        Some(other) => txn == *other,
+        None => false,
+    }
+}
+
+// How many of these, from the first on, are lower.
+fn lower_than(txns: &[TxnId], txn: TxnId) -> usize
+    ensures { result ≡ length (take_while (λ u. nat_lt u txn) txns.now) }
+{
+    let mut place = 0;
+    'txns: while place < txns.len() {
+        if txns[place] >= txn {
+            return place;
+        }
+        place += 1;
+    }
+    place
 }
 
 /// A run of a transaction's statement is out at a replica: the transaction has an entry, and what its reply will take has

@@ -1,10 +1,11 @@
 //! A transaction, as the view keeps it.
-ghost use Rattle.std.specs.Prelude.{◌≡◌, ◌≤◌, ◌<◌, ◌==◌, not, [], ◌∷◌, ◌++◌, length, filter, map, slice_get, vec_len, OnOk, OnErr, IsTrue};
+ghost use Rattle.std.specs.Prelude.{◌≡◌, ◌≤◌, ◌<◌, ◌==◌, not, [], ◌∷◌, ◌++◌, length, filter, map, slice_get, vec_len, OnOk, OnErr, IsTrue, true, if◌then◌else◌};
 ghost use Rattle.std.specs.Option.{option_map};
-ghost use Rattle.hr_base.specs.Lists.{has, numbered};
+ghost use Rattle.hr_base.specs.Lists.{has, numbered, when};
 ghost use Rattle.hr_progress.specs.declared.txn.Given.{Given};
+ghost use Rattle.hr_history.specs.Transactions as history;
 ghost use Rattle.hr_moves.specs.Changes.{map_from, change_at};
-ghost use Rattle.hr_progress.specs.Plain.{plain_txn, plain_txn_in, begun, to_phase, with_statement};
+ghost use Rattle.hr_progress.specs.Plain.{plain_txn, plain_txn_in, begun, to_phase, to_given, with_statement};
 ghost use Rattle.hr_progress.specs.Kept.{HaveGivenRoom};
 
 use hr_base::limits::MAX_STATEMENTS;
@@ -144,4 +145,33 @@ pub fn close(opened: &mut Vec<TxnId>, txn: TxnId)
     ensures one { IsTrue (has opened.old.items txn) → vec_len opened.new < vec_len opened.old }
 {
     opened.retain(|t| *t != txn);
+}
+
+/// Whether a phase is that of an open transaction.
+pub fn is_open(phase: Phase) -> bool
+    ensures { result ≡ history.is_open phase }
+{
+    match phase {
+        Phase::Active | Phase::Asked(_) => true,
+        Phase::Logged(_) | Phase::RolledBack | Phase::Refused => false,
+    }
+}
+
+/// Gives an answer to a transaction's session, if it is to be given; then tells whose it is. It has its place.
+pub fn give_if(is_given: bool, txns: &mut Vec<TxnState>, txn: TxnId, given: Given) -> Option<TxnId>
+    requires first { 1 ≤ txn }
+    requires last { txn ≤ length txns.old.items }
+    requires fits { is_given ≡ true → length (plain_txn_in (map plain_txn txns.old.items) txn).given < (plain_txn_in (map plain_txn txns.old.items) txn).statements }
+    requires room { HaveGivenRoom txns.old.items }
+    ensures result { result ≡ when is_given txn }
+    ensures value { map plain_txn txns.new.items ≡ (if is_given then map_from (change_at txn (to_given given)) 1 (map plain_txn txns.old.items) else map plain_txn txns.old.items) }
+    ensures room { HaveGivenRoom txns.new.items }
+{
+    if !is_given {
+        return None;
+    }
+    let place = (txn - 1) as usize;
+    let state = &mut txns[place];
+    state.given.push_reserved(given);
+    Some(txn)
 }

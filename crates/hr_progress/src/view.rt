@@ -7,6 +7,7 @@ mod calls;
 mod comparisons;
 mod entries;
 mod follows;
+mod gives;
 mod reads;
 mod standing;
 

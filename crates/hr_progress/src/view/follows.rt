@@ -80,7 +80,7 @@ impl View {
 }
 
 // The primary, unless it is this replica.
-fn other_than(replica: u32, primary: Option<u32>) -> Option<u32>
+pub fn other_than(replica: u32, primary: Option<u32>) -> Option<u32>
     ensures { result ≡ history.other_than replica primary }
 {
     match primary {

@@ -1,0 +1,16 @@
+use Rattle.std.proofs.Common.{nat_eq, refl, ap, sym, ◌∙◌}
+use Rattle.std.specs.Option.{option_map}
+use Rattle.indexmap.proofs.MapLemmas.{Found-position}
+use Rattle.hr_progress.specs.Plain.{plain_attempt, to_waiting}
+use Rattle.hr_progress.proofs.Entries.{entry_set, entry_none, is_first_of, is_none, lookup_plain}
+use Rattle.hr_progress.proofs.attempt.wait.Goals as goal
+
+pub returns-in-Some : goal.returns-in-Some
+returns-in-Some c =
+    let es = c.args.attempts.now.entries in
+    let at = Found-position (nat_eq c.args.txn) es c.in-Some.place (sym c.in-Some.ensures.index) in
+    let first = is_first_of c.args.txn es c.in-Some.place at.or_len at.within in
+    entry_set c.args.txn (to_waiting c.args.reply) es c.in-Some.place c.index_mut-attempt.result.now _ first c.index_mut-attempt.ensures.value refl
+
+pub returns-in_default : goal.returns-in_default
+returns-in_default c = sym (entry_none c.args.txn (to_waiting c.args.reply) _ (lookup_plain c.args.txn c.args.attempts.now.entries ∙ ap (option_map plain_attempt) (is_none _ (sym c.in_default.ensures.found))))
