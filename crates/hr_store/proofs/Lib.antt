@@ -2,3 +2,4 @@ mod CellLaws
 mod EndLaws
 mod PutLaws
 mod StoreLaws
+mod ViewLaws

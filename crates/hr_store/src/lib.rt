@@ -5,6 +5,7 @@ mod cell;
 mod cells;
 mod changes;
 mod ending;
+mod laws;
 mod load;
 mod place;
 mod scan;
@@ -13,5 +14,9 @@ mod written;
 
 pub use cell::{Cell, Pending, TxnId};
 pub use ending::Ending;
+pub use laws::{
+    a_writer_sees_its_writes, others_see_no_write, what_was_seen_is_committed,
+    writes_commit_nothing,
+};
 pub use place::Place;
 pub use store::Store;
