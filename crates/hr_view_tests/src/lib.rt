@@ -7,4 +7,6 @@
 pub mod loss_after_commit;
 #[cfg(test)]
 mod plays;
+mod replies;
+pub mod stale_vote;
 pub mod wrong_restart_count;

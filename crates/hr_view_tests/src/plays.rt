@@ -1,6 +1,6 @@
 //! The worked histories, played.
 
-use crate::{loss_after_commit, wrong_restart_count};
+use crate::{loss_after_commit, stale_vote, wrong_restart_count};
 use hr_progress::Phase;
 use std::test::Fail;
 
@@ -22,5 +22,16 @@ fn wrong_restart_count(rt: HostRuntime) -> Result<(), Fail> {
     assert!(rt; view.is_convicted(2));
     assert!(rt; !view.is_lost(2));
     assert!(rt; view.primary() == Some(0));
+    Ok(())
+}
+
+#[test]
+fn stale_vote(rt: HostRuntime) -> Result<(), Fail> {
+    let view = stale_vote::play(rt.alloc())?;
+    assert!(rt; view.phase(1) == Phase::Refused);
+    assert!(rt; view.phase(2) == Phase::Logged(1));
+    assert!(rt; view.is_convicted(0));
+    assert!(rt; view.primary() == Some(1));
+    assert!(rt; view.position(2) == 1);
     Ok(())
 }

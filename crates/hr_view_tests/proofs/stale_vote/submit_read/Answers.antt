@@ -1,0 +1,35 @@
+use Rattle.std.proofs.Common.{◌≡◌, ◌+◌, ◌<◌, Some, None, [], ◌∷◌, length, ap, sym, subst, refl, ◌∙◌, arith, IsTrue}
+use Rattle.hr_base.specs.declared.limits.TheConstants.{MAX_STATEMENTS}
+use Rattle.hr_rel.specs.declared.answer.Answer.TheVariants.{Rows, Count}
+use Rattle.hr_engine.specs.declared.reply.RunReply.TheVariants as run
+use Rattle.hr_engine.specs.declared.reply.EndReply.TheVariants as end
+use Rattle.hr_history.specs.declared.entry.Event.TheVariants as event
+use Rattle.hr_history.specs.declared.job.Job.TheVariants as job
+use Rattle.hr_history.specs.declared.job.JobReply.TheVariants as reply
+use Rattle.hr_history.specs.Faithful.{fits_job, is_restart}
+use Rattle.hr_history.specs.Jobs.{job_in}
+use Rattle.hr_history.specs.Processed.{txn_in, replica_in}
+use Rattle.hr_history.specs.Replicas.{any_stmt}
+use Rattle.hr_history.specs.Step.{view_step}
+use Rattle.hr_history.specs.View.{View, view_of}
+use Rattle.hr_moves.specs.Fits.{IsOpen}
+use Rattle.hr_moves.specs.Sane.{IsReplica}
+use Rattle.hr_history_worked.specs.StaleVote.{stale_vote}
+use Rattle.hr_meaning.specs.Worked.{one}
+use Rattle.hr_history.specs.declared.cause.CauseAt.TheVariants as cause
+use Rattle.hr_history.specs.declared.evidence.Evidence.TheVariants as evidence
+use Rattle.hr_history.specs.Processed.{attempt_in, live_in}
+use Rattle.hr_view_tests.specs.Moments.{moment}
+use Rattle.hr_view_tests.proofs.stale_vote.submit_read.Goals as goal
+
+pub submit-requires-clause-open : goal.submit-requires-clause-open
+submit-requires-clause-open c =
+    subst (λ (v : View). IsOpen v 1) (sym c.requires) refl
+
+pub submit-requires-clause-few : goal.submit-requires-clause-few
+submit-requires-clause-few c =
+    subst (λ (v : View). (txn_in v 1).statements < MAX_STATEMENTS) (sym c.requires) (omega arith)
+
+pub returns : goal.returns
+returns c =
+    c.in_ok-submit.ensures.ok 0 0 0 any_stmt ∙ ap (λ (v : View). view_step v 0 0 (event.Submit 1 0 any_stmt)) c.requires
