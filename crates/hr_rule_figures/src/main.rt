@@ -1,4 +1,5 @@
-//! Figures of the rules in code: how long a job, a tally, a search for one to preempt, and a look for evidence take.
+//! Figures of the rules in code: how long a job, a tally, a search for one to preempt, and a look for evidence take, also where
+//! each of many transactions waits for all before it.
 //!
 //! With the word `times` it prints nanoseconds, best of five runs; without, what the rules answer, which is the same
 //! wherever it runs.
@@ -6,6 +7,7 @@
 
 mod report;
 mod views;
+mod waits;
 
 use report::{print_answers, print_times};
 use std::{env, io};

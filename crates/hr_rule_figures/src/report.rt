@@ -3,6 +3,7 @@ ghost use Rattle.std.specs.Prelude.{◌≤◌, ◌*◌};
 ghost use Rattle.hr_moves.specs.Sane.{IsReplica};
 
 use crate::views::{Size, newest, view_of};
+use crate::waits::all_wait;
 use hr_pool::{next, preempts};
 use hr_progress::View;
 use hr_votes::{Tally, evidence, tally};
@@ -12,7 +13,7 @@ use std::sync::atomic::{AtomicU32, Ordering};
 use std::time::Instant;
 
 // So many calls are timed together.
-const CALLS: u32 = 100_000;
+const CALLS: u32 = 20_000;
 
 // Of so many runs the best is told.
 const RUNS: u32 = 5;
@@ -64,6 +65,7 @@ pub fn print_times<R: Print + AllocGlobal + Clock>(rt: &R) -> io::Result<()> {
             for finished in [0, 10_000] {
                 print_time(rt, &Size { f, finished, open })?;
             }
+            print_walk(rt, f, open)?;
         }
     }
     Ok(())
@@ -81,6 +83,15 @@ fn print_time<R: Print + AllocGlobal + Clock>(rt: &R, size: &Size) -> io::Result
         "f = {}, {} open, {} finished: a job {job} ns, a tally {tally}, to preempt {preempts}, evidence {evidence}",
         size.f, size.open, size.finished
     )
+}
+
+fn print_walk<R: Print + AllocGlobal + Clock>(rt: &R, f: u32, open: u32) -> io::Result<()>
+    requires { f ≤ 3 }
+{
+    let view = all_wait(rt.alloc(), f, open)?;
+    let entries = view.entries(0);
+    let walk = nanos(rt, &view, Rule::Evidence)?;
+    println!(rt; "f = {f}, {entries} that wait for all before them: evidence {walk} ns")
 }
 
 // How long a call takes, at the best of some runs.

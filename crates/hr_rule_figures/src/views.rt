@@ -51,8 +51,8 @@ fn refuse(view: &mut View) {
     }
 }
 
-// Submits a statement of the newest one.
-fn submit(view: &mut View) -> Result<(), AllocError> {
+/// Submits a statement of the newest one.
+pub fn submit(view: &mut View) -> Result<(), AllocError> {
     if let Some(txn) = newest(view) {
         if is_open(view.phase(txn)) && view.statements(txn) < MAX_STATEMENTS {
             view.submit(txn)?;
