@@ -1,8 +1,10 @@
 //! A transaction at a replica, as the view keeps it.
-ghost use Rattle.std.specs.Prelude.{◌≡◌, ◌≤◌, ◌<◌, ℕ, None, Some, [], ◌∷◌, ◌++◌, if◌then◌else◌, vec_len, vec_capacity, length, map, nat_eq, OnOk, OnErr};
+ghost use Rattle.std.specs.Prelude.{◌≡◌, ◌≤◌, ◌<◌, ℕ, None, Some, [], ◌∷◌, ◌++◌, if◌then◌else◌, vec_len, vec_capacity, length, map, nat_eq, unwrap_or, OnOk, OnErr};
 ghost use Rattle.std.specs.Map.{lookup};
-ghost use Rattle.hr_base.specs.Lists.{is_empty};
+ghost use Rattle.std.specs.Option.{option_map};
+ghost use Rattle.hr_base.specs.Lists.{is_empty, numbered};
 ghost use Rattle.hr_base.specs.declared.limits.TheConstants.{MAX_SUBMITS};
+ghost use Rattle.hr_progress.specs.declared.attempt.Told.{Told};
 ghost use Rattle.hr_progress.specs.Kept.{IsRoomy, HasAnswerRoom};
 ghost use Rattle.hr_progress.specs.Plain.{plain_attempt, plain_entry, plain_attempt_in, idle_attempt, and_entry, with_entry, to_preempted, to_answered, to_waiting, to_idle, to_idle_entry};
 
@@ -32,6 +34,19 @@ pub struct Told {
     pub reply: usize,
     /// The place in the history of the Give that told it.
     pub at: u64,
+}
+
+/// Where in the history the answer with this number, from 1, of an attempt was told; 0 where it has none.
+pub fn told_place(told: &[Told], index: u32) -> u64
+    ensures { result ≡ unwrap_or (option_map (λ (t : Told). t.at) (numbered told.now index)) 0 }
+{
+    if index == 0 {
+        return 0;
+    }
+    match told.get((index - 1) as usize) {
+        Some(told) => told.at,
+        None => 0,
+    }
 }
 
 /// How many statements of a transaction are answered in its attempt.

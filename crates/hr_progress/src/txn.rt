@@ -81,6 +81,19 @@ pub fn stamp_after(given: &[Given], answers: usize) -> Option<u64>
     }
 }
 
+/// The place among the replies of the answer that was given to the statement with this index, from 1, if it was.
+pub fn given_place(given: &[Given], index: u32) -> Option<usize>
+    ensures { result ≡ option_map (λ (g : Given). g.reply) (numbered given.now index) }
+{
+    if index == 0 {
+        return None;
+    }
+    match given.get((index - 1) as usize) {
+        Some(given) => Some(given.reply),
+        None => None,
+    }
+}
+
 /// The answers that were given to a transaction; of a number that none has, none.
 pub fn given_of(txns: &[TxnState], txn: TxnId) -> &[Given]
     ensures { result.now ≡ (plain_txn_in (map plain_txn txns.now) txn).given }

@@ -8,6 +8,7 @@ mod comparisons;
 mod entries;
 mod follows;
 mod gives;
+mod places;
 mod reads;
 mod standing;
 
