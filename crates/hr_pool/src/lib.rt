@@ -11,3 +11,4 @@ mod runs;
 pub use jobs::next;
 pub use preemption::preempts;
 pub use rollbacks::to_roll_back;
+pub use runs::{earlier, is_open, is_primary};

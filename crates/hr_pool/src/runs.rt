@@ -207,8 +207,8 @@ fn next_index(view: &View, replica: u32, txn: TxnId) -> u32
 
 // ---- ranks
 
-// Of a transaction and one behind it, the second where that ranks before the first.
-fn earlier(view: &View, txn: TxnId, behind: Option<TxnId>) -> Option<TxnId>
+/// Of a transaction and one behind it, the second where that ranks before the first.
+pub fn earlier(view: &View, txn: TxnId, behind: Option<TxnId>) -> Option<TxnId>
     ensures { result ≡ earlier (ranks_before view.now) txn behind }
 {
     match behind {
@@ -223,7 +223,8 @@ fn earlier(view: &View, txn: TxnId, behind: Option<TxnId>) -> Option<TxnId>
     }
 }
 
-fn is_open(phase: Phase) -> bool
+/// Whether a phase is that of an open transaction.
+pub fn is_open(phase: Phase) -> bool
     ensures { result ≡ history.is_open phase }
 {
     match phase {

@@ -1,0 +1,2 @@
+pub mod FollowUps
+pub mod Turns
