@@ -1,3 +1,4 @@
 pub mod InsertLaws
 pub mod MachineLaws
+pub mod SelectLaws
 pub mod UpdateLaws

@@ -11,7 +11,7 @@ use crate::select::{from_pairs, from_rows};
 use crate::update::{delete_rows, update_rows};
 use hr_rel::{
     Answer, Catalog, ColumnDef, DeleteStmt, InsertStmt, Row, Rows, RunError, SelectStmt, Seq, Stmt,
-    UpdateStmt,
+    TryCopy, UpdateStmt,
 };
 use std::alloc::{AllocError, Global};
 use std::marker::Model;
@@ -47,6 +47,18 @@ impl Machine {
             catalog,
             tables: rows,
         }
+    }
+
+    /// A database of a copy of this catalog with copies of these rows, a list of rows for each table.
+    pub fn with_rows(alloc: Global, catalog: &Catalog, rows: &Rows) -> Result<Machine, AllocError>
+        requires { length rows.now ≡ length catalog.now.tables }
+        ensures { IfOk result (λ machine. machine ≡ record { catalog = catalog.now; tables = rows.now }) }
+    {
+        Ok(Machine {
+            alloc,
+            catalog: catalog.try_copy(alloc)?,
+            tables: rows.try_copy(alloc)?,
+        })
     }
 
     /// Runs a statement: the answer and what is left are those of its definition. One that doesn't fit the catalog
@@ -116,6 +128,23 @@ impl Machine {
         ensures { result.now ≡ self.now.tables }
     {
         &self.tables
+    }
+
+    /// A copy of the rows of each table.
+    pub fn dump(&self) -> Result<Rows, AllocError>
+        ensures { IfOk result (λ rows. rows ≡ self.now.tables) }
+    {
+        self.tables.try_copy(self.alloc)
+    }
+}
+
+impl TryCopy for Machine {
+    fn try_copy(&self, alloc: Global) -> Result<Machine, AllocError> {
+        Ok(Machine {
+            alloc,
+            catalog: self.catalog.try_copy(alloc)?,
+            tables: self.tables.try_copy(alloc)?,
+        })
     }
 }
 

@@ -10,21 +10,24 @@ ghost use Rattle.hr_eval.specs.Answerings.{IsSoFar};
 ghost use Rattle.hr_machine.specs.Kept.{keeps, kept_of, single, with_first};
 
 use hr_eval::{Answering, Tuple, is_kept};
-use hr_rel::{Answer, Row, SelectStmt};
+use hr_rel::{Answer, Row, RunError, SelectStmt};
 use std::alloc::{AllocError, Global};
 
-/// The answer over the rows of one table.
+/// The answer over the rows of one table. Once there are too many, the rows behind aren't looked at.
 pub fn from_rows(alloc: Global, select: &SelectStmt, rows: &[Row]) -> Result<Answer, AllocError>
     ensures { IfOk result (λ answer. answer ≡ answer_from select.now (kept_of select.now (tuples (rows.now ∷ [])))) }
 {
     let mut answering = Answering::new(alloc, select)?;
     'rows: for row in rows {
         offer(alloc, &mut answering, select, Tuple::Row(row.as_slice()))?;
+        if answering.is_full() {
+            return Ok(Answer::Failed(RunError::TooManyRows));
+        }
     }
     answering.answer(alloc)
 }
 
-/// The answer over all pairs of rows of two tables.
+/// The answer over all pairs of rows of two tables. Once there are too many, no further row is paired.
 pub fn from_pairs(
     alloc: Global,
     select: &SelectStmt,
@@ -36,6 +39,9 @@ pub fn from_pairs(
     let mut answering = Answering::new(alloc, select)?;
     'firsts: for first in firsts {
         offer_pairs(alloc, &mut answering, select, first, seconds)?;
+        if answering.is_full() {
+            return Ok(Answer::Failed(RunError::TooManyRows));
+        }
     }
     answering.answer(alloc)
 }
