@@ -1,0 +1,3 @@
+pub mod Chronicle
+pub mod Kept
+pub mod Told
