@@ -13,7 +13,7 @@ ghost use Rattle.hr_one_engine.specs.Run.{one_lock, StandsFor, stands_of, base_o
 
 use hr_answer::canonical;
 use hr_engine::{Backend, EndReply, Lost, RunReply, TxnId};
-use hr_plain::Plain;
+use hr_machine::Machine;
 use hr_rel::{Answer, Catalog, Rows, Seq, Stmt, TryCopy};
 use std::alloc::{AllocError, Global};
 
@@ -24,7 +24,7 @@ use std::alloc::{AllocError, Global};
 /// back to, so neither commit nor rollback takes memory.
 #[derive(Drop)]
 pub struct OneEngine {
-    rows: Plain,
+    rows: Machine,
     holder: Option<Holder>,
     commits: u64,
 }
@@ -33,7 +33,7 @@ pub struct OneEngine {
 #[derive(Drop)]
 struct Holder {
     txn: TxnId,
-    before: Plain,
+    before: Machine,
 }
 
 impl OneEngine {
@@ -43,7 +43,7 @@ impl OneEngine {
         ensures { IfOk result (λ engine. ⟦<OneEngine as Backend>⟧.stands engine record { catalog = catalog.now; tables = rows.now } []) }
     {
         Ok(OneEngine {
-            rows: Plain::with_rows(alloc, catalog, rows)?,
+            rows: Machine::with_rows(alloc, catalog, rows)?,
             holder: None,
             commits: 0,
         })

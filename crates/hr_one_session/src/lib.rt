@@ -4,5 +4,5 @@
 
 mod session;
 
-pub use hr_plain::Plain;
+pub use hr_machine::Machine as Plain;
 pub use session::OneSession;

@@ -5,7 +5,7 @@ ghost use Rattle.hr_meaning.specs.Serial.{play};
 ghost use Rattle.hr_one_session.specs.Replicas.{Hold};
 
 use hr_base::limits::{MAX_F, MAX_SESSIONS};
-use hr_plain::Plain;
+use hr_machine::Machine;
 use hr_rel::{Answer, Stmt};
 use std::alloc::{AllocError, Global};
 
@@ -32,7 +32,7 @@ impl OneSession {
     /// database before and after. Where memory runs out, the replicas may differ.
     pub fn transact(
         &mut self,
-        replicas: &mut [Plain],
+        replicas: &mut [Machine],
         stmts: Vec<Stmt>,
     ) -> Result<Vec<Answer>, AllocError>
         requires { length replicas.old ≡ 2 * self.old.f + 1 }
@@ -52,7 +52,7 @@ impl OneSession {
 }
 
 // Runs a statement at each replica, and answers what the last one does; None where there is no replica.
-fn run_at_all(replicas: &mut [Plain], stmt: &Stmt) -> Result<Option<Answer>, AllocError>
+fn run_at_all(replicas: &mut [Machine], stmt: &Stmt) -> Result<Option<Answer>, AllocError>
     ensures some { IfOk result (λ answer. 0 < length replicas.old → IsSome answer) }
     ensures answer { (db : Database) → Hold db replicas.old → IfOk result (λ answer. IfSome answer (λ a. a ≡ (exec db stmt.now).answer)) }
     ensures replicas { OnOk result (replicas.new ≡ map (λ db. (exec db stmt.now).after) replicas.old) }
