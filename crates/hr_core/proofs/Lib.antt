@@ -6,3 +6,4 @@ pub mod Given
 pub mod Causes
 pub mod Silent
 pub mod Firsts
+pub mod Waits

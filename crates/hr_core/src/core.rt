@@ -4,6 +4,7 @@ ghost use Rattle.hr_core.specs.declared.seat.Seat.TheVariants as seat;
 
 mod calls;
 mod entering;
+mod told;
 mod turns;
 
 use crate::seat::{Seat, Shown};
