@@ -1,0 +1,4 @@
+pub mod Suspects
+pub mod Seats
+pub mod Turns
+pub mod Told
