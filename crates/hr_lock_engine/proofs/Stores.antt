@@ -41,7 +41,7 @@ none_found (row ∷ rows) k numbers unfit =
     let both = and_parts (has_number_key row) (list_all has_number_key rows) numbers in
     found_later k row rows (other_key row k both.0 unfit) ∙ none_found rows k both.1 unfit
 
-no_row : (db : Database) → IsOrdered db → (t : ℕ) (k : ℤ) → fits_i64 k ≡ false → row_at db t k ≡ None
+pub no_row : (db : Database) → IsOrdered db → (t : ℕ) (k : ℤ) → fits_i64 k ≡ false → row_at db t k ≡ None
 no_row db ordered t k unfit =
     none_found (rows_of db t) k (and_parts (list_all has_number_key (rows_of db t)) (list_all ascends (zip (rows_of db t) (drop 1 (rows_of db t)))) (in_order db ordered t)).0 unfit
 
