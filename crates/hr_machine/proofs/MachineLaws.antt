@@ -1,6 +1,11 @@
 -- What a change of one table is to the database.
-use Rattle.std.proofs.Common.{◌≡◌, ℕ, ◌<◌, zero, suc, Bool, true, false, cond, List, [], ◌∷◌, get_or, length, map, Result, Ok, Err, OnErr, refl, ap, sym, ◌∙◌, arith}
+use Rattle.std.proofs.Common.{◌≡◌, ℕ, ◌<◌, zero, suc, Bool, true, false, cond, List, [], ◌∷◌, get_or, length, map, Result, Ok, Err, IfOk, OnErr, refl, ap, sym, subst, ◌∙◌, arith}
 use Rattle.std.specs.Prelude.{slice_set}
+use Rattle.std.specs.List.{list_all}
+use Rattle.std.proofs.lemmas.Bool.{and_parts}
+use Rattle.hr_rel.specs.Holds.{is_ordered, IsOrdered}
+use Rattle.hr_statement_laws.proofs.Ordered.{keeps_order}
+use Rattle.hr_machine.specs.Order.{IsShaped}
 use Rattle.std.proofs.lemmas.List.{set-set}
 use Rattle.hr_rel.specs.declared.value.Value.{Value}
 use Rattle.hr_rel.specs.declared.catalog.Catalog.{Catalog}
@@ -12,7 +17,7 @@ use Rattle.hr_rel.specs.declared.stmt.Stmt.{Stmt}
 use Rattle.hr_rel.specs.declared.stmt.SelectStmt.{SelectStmt}
 use Rattle.hr_rel.specs.Database.{Database, rows_of}
 use Rattle.hr_rel.specs.Fit.{fits}
-use Rattle.hr_meaning.specs.Exec.{exec, meaning, failed, changed}
+use Rattle.hr_meaning.specs.Exec.{Outcome, exec, meaning, failed, changed}
 use Rattle.hr_meaning.specs.Exec.{tuples, kept}
 use Rattle.hr_machine.specs.Kept.{kept_of}
 use Rattle.hr_machine.specs.Changes.{rows_at, IsChange}
@@ -96,3 +101,34 @@ module _ (db : Database) (s : SelectStmt) where
   of_two_tables (t ∷ []) e n rows r others q = absurd (omega arith)
   of_two_tables (t ∷ u ∷ v ∷ ts) e n rows r others q = absurd (omega arith)
   of_two_tables (t ∷ u ∷ []) e n rows r others q = (λ i. kept_of s (tuples (r i ∷ q i ∷ []))) ∙ ap (λ l. kept_of s (tuples (map (rows_of db) l))) e
+
+-- ---- order
+
+pub rows_in_order : (tables : List (List (List Value))) (t : ℕ) → list_all is_ordered tables ≡ true → is_ordered (rows_at tables t) ≡ true
+rows_in_order [] t h = refl
+rows_in_order (rows ∷ tables) zero h = (and_parts (is_ordered rows) (list_all is_ordered tables) h).0
+rows_in_order (rows ∷ tables) (suc t) h = rows_in_order tables t (and_parts (is_ordered rows) (list_all is_ordered tables) h).1
+
+pub still_shaped : (db : Database) (s : Stmt) (tables : List (List (List Value))) (said : Bool) → IsShaped db.catalog db.tables said → fits db.catalog s ≡ true → length tables ≡ length db.tables
+    → record { catalog = db.catalog; tables = tables } ≡ (meaning db s).after → IsShaped db.catalog tables said
+still_shaped db s tables said h fit size e = record {
+  size = size ∙ h.size;
+  order = λ k. subst IsOrdered (ap (λ (o : Outcome). o.after) (exec_fitting db s fit) ∙ sym e) (keeps_order db s (h.order k));
+}
+
+pub set_size : (xs : List (List (List Value))) (i : ℕ) (x : List (List Value)) → length (slice_set xs i x) ≡ length xs
+set_size [] i x = refl
+set_size (y ∷ ys) zero x = refl
+set_size (y ∷ ys) (suc i) x = ap suc (set_size ys i x)
+
+changed_size : (old new : List (List (List Value))) (t count : ℕ) (r : Result (List (List Value)) RunError) (answer : Answer) → IsChange answer old new t count r → length new ≡ length old
+changed_size old new t count (Ok rows) answer h = ap length h.1 ∙ set_size old t rows
+changed_size old new t count (Err d) answer h = ap length h.1
+
+-- a database after a change that is a statement's, or after want of memory
+pub shaped_after : {E : Type 0} (db : Database) (s : Stmt) (said : Bool) (t count : ℕ) (r : Result (List (List Value)) RunError) (new : List (List (List Value))) (result : Result Answer E)
+    → IsShaped db.catalog db.tables said → fits db.catalog s ≡ true → meaning db s ≡ changed db t count r
+    → IfOk result (λ answer. IsChange answer db.tables new t count r) → OnErr result (new ≡ db.tables) → IsShaped db.catalog new said
+shaped_after db s said t count r new (Ok answer) h fit e done lost =
+    still_shaped db s new said h fit (changed_size db.tables new t count r answer done) (change_after db.tables new t count r db.catalog answer done ∙ ap (λ (o : Outcome). o.after) (sym e))
+shaped_after db s said t count r new (Err d) h fit e done lost = subst (λ (tables : List (List (List Value))). IsShaped db.catalog tables said) (sym lost) h

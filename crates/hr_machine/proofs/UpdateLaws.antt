@@ -1,6 +1,8 @@
 -- The new rows of an UPDATE, in the places of their old ones, are what each row comes to.
-use Rattle.std.proofs.Common.{◌≡◌, ℕ, suc, ◌+◌, Bool, true, false, if◌then◌else◌, cond, Option, Some, None, List, [], ◌∷◌, ◌++◌, length, Result, Ok, Err, refl, ap, sym, ◌∙◌, length-append}
+use Rattle.std.proofs.Common.{◌≡◌, ℕ, zero, suc, ◌+◌, Bool, true, false, if◌then◌else◌, cond, Option, Some, None, List, [], ◌∷◌, ◌++◌, length, take, drop, ◌≤◌, arith, Result, Ok, Err, refl, ap, sym, ◌∙◌, length-append}
 use Rattle.std.specs.Prelude.{slice_set}
+use Rattle.std.specs.List.{list_any}
+use Rattle.std.proofs.lemmas.Bool.{or_parts}
 use Rattle.std.proofs.lemmas.List.{append_assoc, set_at}
 use Rattle.hr_rel.specs.declared.value.Value.{Value}
 use Rattle.hr_rel.specs.declared.answer.RunError.{RunError}
@@ -107,3 +109,38 @@ module _ (columns : List ColumnDef) (s : UpdateStmt) where
       let all : and_then (Ok cs) (λ ds. Ok (length ds)) ≡ and_then (Ok cs) (λ ds. Ok (length (kept_rows s.filter rows))) =
       sym (ap (λ m. count_in m 0) e) ∙ count_all rows 0 ∙ ap (λ m. counted m (length (kept_rows s.filter rows))) e in
       inside (length cs) (length (kept_rows s.filter rows)) all
+
+  -- ---- rows that aren't kept have no changes
+
+  abbrev is_changed : List Value → Bool
+  is_changed row = is_kept s.filter (row ∷ [])
+
+  passed_by : (row : List Value) (rows : List (List Value)) (n : ℕ) (b : Bool) (new : Result (List Value) RunError) → b ≡ false
+      → and_then (change_by b new n) (λ c. and_then (changes (n + 1) rows) (λ more. Ok (with_change c more))) ≡ changes (n + 1) rows
+  passed_by row rows n true new e = cc
+  passed_by row rows n false new e = by_result (changes (n + 1) rows)
+    where
+      by_result : (m : Result (List Change) RunError) → and_then m (λ more. Ok more) ≡ m
+      by_result (Ok more) = refl
+      by_result (Err d) = refl
+
+  pub none_changed : (n : ℕ) (rows : List (List Value)) → list_any is_changed rows ≡ false → changes_from columns s n rows ≡ Ok []
+  none_changed n [] e = refl
+  none_changed n (row ∷ rows) e =
+      let parts = or_parts (is_changed row) (list_any is_changed rows) e in
+      passed_by row rows n (is_changed row) (assigned columns row s.sets row) parts.0 ∙ none_changed (n + 1) rows parts.1
+
+  passed_over : (k n : ℕ) (rows : List (List Value)) → list_any is_changed (take k rows) ≡ false → k ≤ length rows → changes n rows ≡ changes (n + k) (drop k rows)
+  passed_over zero n rows e le = let same : n ≡ n + 0 = omega arith in ap (λ m. changes m rows) same
+  passed_over (suc k) n [] e le = absurd (omega (arith, le))
+  passed_over (suc k) n (row ∷ rows) e le =
+      let parts = or_parts (is_changed row) (list_any is_changed (take k rows)) e in
+      let same : n + 1 + k ≡ n + suc k = omega arith in
+      passed_by row rows n (is_changed row) (assigned columns row s.sets row) parts.0 ∙ passed_over k (n + 1) rows parts.1 (omega (arith, le))
+      ∙ ap (λ m. changes m (drop k rows)) same
+
+  -- the changes of all rows are those from the first place before which none is kept
+  pub changes_begin : (from : ℕ) (rows : List (List Value)) → list_any is_changed (take from rows) ≡ false → from ≤ length rows → changes_from columns s from (drop from rows) ≡ changes_from columns s 0 rows
+  changes_begin from rows e le =
+      let same : 0 + from ≡ from = omega arith in
+      ap (λ m. changes m (drop from rows)) (sym same) ∙ sym (passed_over from 0 rows e le)

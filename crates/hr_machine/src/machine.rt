@@ -1,4 +1,5 @@
 ghost use Rattle.std.specs.Prelude.{◌≡◌, ◌<◌, [], true, length, slice_get, slice_set, unwrap_or, IfOk, OnOk, OnErr};
+ghost use Rattle.hr_rel.specs.Holds.{is_ordered};
 ghost use Rattle.hr_rel.specs.Fit.{is_joined, insert_fits, update_fits, delete_fits, select_fits};
 ghost use Rattle.hr_meaning.specs.Value.{each};
 ghost use Rattle.hr_meaning.specs.Select.{answer_from};
@@ -7,8 +8,9 @@ ghost use Rattle.hr_meaning.specs.Exec.{exec, meaning, kept, kept_rows, other_ro
 ghost use Rattle.hr_machine.specs.Changes.{rows_at, IsChange};
 
 use crate::insert::insert_rows;
-use crate::select::{from_pairs, from_rows};
+use crate::select::{from_pairs, from_table};
 use crate::update::{delete_rows, update_rows};
+use hr_keys::in_order;
 use hr_rel::{
     Answer, Catalog, ColumnDef, DeleteStmt, InsertStmt, Row, Rows, RunError, SelectStmt, Seq, Stmt,
     TryCopy, UpdateStmt,
@@ -23,17 +25,20 @@ pub struct Machine {
     alloc: Global,
     catalog: Catalog,
     tables: Rows,
+    // Whether the rows are known to be in order, and so found by their keys.
+    ordered: bool,
 }
 
 impl Model for Machine {
     ghost use Rattle.std.specs.Prelude.{◌≡◌, length};
     ghost use Rattle.hr_rel.specs.Database.{Database};
+    ghost use Rattle.hr_machine.specs.Order.{IsShaped};
 
     ghost Value = { Database };
 
     ghost view = { λ m. record { catalog = m.catalog; tables = m.tables } };
 
-    ghost invariant = { λ m. length m.tables ≡ length m.catalog.tables };
+    ghost invariant = { λ m. IsShaped m.catalog m.tables m.ordered };
 }
 
 impl Machine {
@@ -42,10 +47,12 @@ impl Machine {
         requires { length rows ≡ length catalog.tables }
         ensures { result ≡ record { catalog = catalog; tables = rows } }
     {
+        let ordered = in_order(&catalog, &rows);
         Machine {
             alloc,
             catalog,
             tables: rows,
+            ordered,
         }
     }
 
@@ -54,11 +61,7 @@ impl Machine {
         requires { length rows.now ≡ length catalog.now.tables }
         ensures { IfOk result (λ machine. machine ≡ record { catalog = catalog.now; tables = rows.now }) }
     {
-        Ok(Machine {
-            alloc,
-            catalog: catalog.try_copy(alloc)?,
-            tables: rows.try_copy(alloc)?,
-        })
+        Ok(Machine::new(alloc, catalog.try_copy(alloc)?, rows.try_copy(alloc)?))
     }
 
     /// Runs a statement: the answer and what is left are those of its definition. One that doesn't fit the catalog
@@ -84,7 +87,12 @@ impl Machine {
         ensures { IfOk result (λ answer. answer ≡ answer_from select.now (kept self.now select.now)) }
     {
         match select.tables.as_slice() {
-            [table] => from_rows(self.alloc, select, rows_of(&self.tables, *table)),
+            [table] => from_table(
+                self.alloc,
+                select,
+                rows_of(&self.tables, *table),
+                self.ordered,
+            ),
             [first, second] => from_pairs(
                 self.alloc,
                 select,
@@ -102,7 +110,7 @@ impl Machine {
         ensures err { OnErr result (self.new ≡ self.old) }
     {
         let columns = self.catalog.columns_of(insert.table);
-        insert_into(self.alloc, columns, &mut self.tables, insert)
+        insert_into(self.alloc, columns, &mut self.tables, insert, self.ordered)
     }
 
     fn update(&mut self, update: &UpdateStmt) -> Result<Answer, AllocError>
@@ -112,7 +120,7 @@ impl Machine {
         ensures err { OnErr result (self.new ≡ self.old) }
     {
         let columns = self.catalog.columns_of(update.table);
-        update_in(self.alloc, columns, &mut self.tables, update)
+        update_in(self.alloc, columns, &mut self.tables, update, self.ordered)
     }
 
     fn delete(&mut self, delete: &DeleteStmt) -> Answer
@@ -120,7 +128,7 @@ impl Machine {
         ensures answer { result ≡ (meaning self.old (Stmt.Delete delete.now)).answer }
         ensures after { self.new ≡ (meaning self.old (Stmt.Delete delete.now)).after }
     {
-        delete_from(self.alloc, &mut self.tables, delete)
+        delete_from(self.alloc, &mut self.tables, delete, self.ordered)
     }
 
     /// The rows of each table.
@@ -144,6 +152,7 @@ impl TryCopy for Machine {
             alloc,
             catalog: self.catalog.try_copy(alloc)?,
             tables: self.tables.try_copy(alloc)?,
+            ordered: self.ordered,
         })
     }
 }
@@ -153,13 +162,15 @@ fn insert_into(
     columns: &[ColumnDef],
     tables: &mut Rows,
     insert: &InsertStmt,
+    ordered: bool,
 ) -> Result<Answer, AllocError>
-    requires { insert.now.table < length tables.old }
+    requires table { insert.now.table < length tables.old }
+    requires order { ordered ≡ true → is_ordered (rows_at tables.old insert.now.table) ≡ true }
     ensures ok { IfOk result (λ answer. IsChange answer tables.old tables.new insert.now.table (length insert.now.rows) (inserted columns.now (rows_at tables.old insert.now.table) insert.now.rows)) }
     ensures err { OnErr result (tables.new ≡ tables.old) }
 {
     let mut rows = take_rows(alloc, tables, insert.table);
-    let outcome = insert_rows(alloc, columns, &mut rows, insert.rows.as_slice());
+    let outcome = insert_rows(alloc, columns, &mut rows, insert.rows.as_slice(), ordered);
     put_back(tables, insert.table, rows);
     match outcome? {
         Ok(()) => Ok(Answer::Count(insert.rows.len() as u64)),
@@ -172,13 +183,15 @@ fn update_in(
     columns: &[ColumnDef],
     tables: &mut Rows,
     update: &UpdateStmt,
+    ordered: bool,
 ) -> Result<Answer, AllocError>
-    requires { update.now.table < length tables.old }
+    requires table { update.now.table < length tables.old }
+    requires order { ordered ≡ true → is_ordered (rows_at tables.old update.now.table) ≡ true }
     ensures ok { IfOk result (λ answer. IsChange answer tables.old tables.new update.now.table (length (kept_rows update.now.filter (rows_at tables.old update.now.table))) (each (updated columns.now update.now) (rows_at tables.old update.now.table))) }
     ensures err { OnErr result (tables.new ≡ tables.old) }
 {
     let mut rows = take_rows(alloc, tables, update.table);
-    let outcome = update_rows(alloc, columns, &mut rows, update);
+    let outcome = update_rows(alloc, columns, &mut rows, update, ordered);
     put_back(tables, update.table, rows);
     match outcome? {
         Ok(count) => Ok(Answer::Count(count as u64)),
@@ -186,13 +199,14 @@ fn update_in(
     }
 }
 
-fn delete_from(alloc: Global, tables: &mut Rows, delete: &DeleteStmt) -> Answer
-    requires { delete.now.table < length tables.old }
+fn delete_from(alloc: Global, tables: &mut Rows, delete: &DeleteStmt, ordered: bool) -> Answer
+    requires table { delete.now.table < length tables.old }
+    requires order { ordered ≡ true → is_ordered (rows_at tables.old delete.now.table) ≡ true }
     ensures answer { result ≡ Answer.Count (length (kept_rows delete.now.filter (rows_at tables.old delete.now.table))) }
     ensures after { tables.new ≡ slice_set tables.old delete.now.table (other_rows delete.now.filter (rows_at tables.old delete.now.table)) }
 {
     let mut rows = take_rows(alloc, tables, delete.table);
-    let count = delete_rows(&mut rows, &delete.filter);
+    let count = delete_rows(&mut rows, &delete.filter, ordered);
     put_back(tables, delete.table, rows);
     Answer::Count(count as u64)
 }

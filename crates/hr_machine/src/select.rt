@@ -1,6 +1,7 @@
 //! SELECT: one pass over the rows of a table, or over all pairs of two.
-ghost use Rattle.std.specs.Prelude.{◌≡◌, ◌&&◌, [], ◌∷◌, ◌++◌, List, map, filter, IfOk, OnOk};
+ghost use Rattle.std.specs.Prelude.{◌≡◌, true, ◌&&◌, [], ◌∷◌, ◌++◌, List, map, filter, IfOk, OnOk};
 ghost use Rattle.hr_rel.specs.declared.value.Value as values;
+ghost use Rattle.hr_rel.specs.Holds.{is_ordered};
 ghost use Rattle.hr_meaning.specs.Truth as meaning;
 ghost use Rattle.hr_meaning.specs.Truth.{is_kept};
 ghost use Rattle.hr_meaning.specs.Select.{answer_from};
@@ -10,11 +11,27 @@ ghost use Rattle.hr_eval.specs.Answerings.{IsSoFar};
 ghost use Rattle.hr_machine.specs.Kept.{keeps, kept_of, single, with_first};
 
 use hr_eval::{Answering, Tuple, is_kept};
+use hr_keys::span_of;
 use hr_rel::{Answer, Row, RunError, SelectStmt};
 use std::alloc::{AllocError, Global};
 
-/// The answer over the rows of one table. Once there are too many, the rows behind aren't looked at.
-pub fn from_rows(alloc: Global, select: &SelectStmt, rows: &[Row]) -> Result<Answer, AllocError>
+/// The answer over the rows of one table. Where it is known to be in order, and the condition asks for a key, only the row near
+/// that key is looked at.
+pub fn from_table(
+    alloc: Global,
+    select: &SelectStmt,
+    rows: &[Row],
+    ordered: bool,
+) -> Result<Answer, AllocError>
+    requires { ordered ≡ true → is_ordered rows.now ≡ true }
+    ensures { IfOk result (λ answer. answer ≡ answer_from select.now (kept_of select.now (tuples (rows.now ∷ [])))) }
+{
+    let span = span_of(rows, &select.filter, ordered);
+    from_rows(alloc, select, &rows[span.from..span.to])
+}
+
+// The answer over these rows of one table. Once there are too many, the rows behind aren't looked at.
+fn from_rows(alloc: Global, select: &SelectStmt, rows: &[Row]) -> Result<Answer, AllocError>
     ensures { IfOk result (λ answer. answer ≡ answer_from select.now (kept_of select.now (tuples (rows.now ∷ [])))) }
 {
     let mut answering = Answering::new(alloc, select)?;

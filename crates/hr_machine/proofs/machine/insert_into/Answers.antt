@@ -10,7 +10,7 @@ pub returns-in_err-outcome-clause-err : goal.returns-in_err-outcome-clause-err
 returns-in_err-outcome-clause-err c =
     let t = c.args.insert.now.table in
     on_err c.from_residual.result
-    (put_again c.args.tables.now c.take_rows-rows.new.tables c.put_back.new.tables t c.insert_rows-outcome.new.table.items c.take_rows-rows.ensures.left c.put_back.ensures (c.in_err-outcome.ensures.err ∙ c.take_rows-rows.ensures.rows) c.requires)
+    (put_again c.args.tables.now c.take_rows-rows.new.tables c.put_back.new.tables t c.insert_rows-outcome.new.table.items c.take_rows-rows.ensures.left c.put_back.ensures (c.in_err-outcome.ensures.err ∙ c.take_rows-rows.ensures.rows) c.requires.table)
 
 pub returns-in-Ok-clause-ok : goal.returns-in-Ok-clause-ok
 returns-in-Ok-clause-ok c =
@@ -30,4 +30,4 @@ returns-in-Err-clause-ok c =
     let put = c.put_back.ensures ∙ ap (λ l. slice_set l t rows) c.take_rows-rows.ensures.left in
     let fact = (rw c.in-Err.is at c.in_ok-outcome.ensures.outcome) in
     change_failed tables c.put_back.new.tables t (length c.args.insert.now.rows) (inserted c.args.columns.now (rows_at tables t) c.args.insert.now.rows) c.in-Err.error rows []
-    ((λ i. inserted c.args.columns.now (sym c.take_rows-rows.ensures.rows i) (sym c.as_slice.ensures i)) ∙ fact.0) (fact.1 ∙ c.take_rows-rows.ensures.rows) c.requires put
+    ((λ i. inserted c.args.columns.now (sym c.take_rows-rows.ensures.rows i) (sym c.as_slice.ensures i)) ∙ fact.0) (fact.1 ∙ c.take_rows-rows.ensures.rows) c.requires.table put

@@ -11,7 +11,7 @@ pub returns-in_err-count-clause-err : goal.returns-in_err-count-clause-err
 returns-in_err-count-clause-err c =
     let t = c.args.update.now.table in
     on_err c.from_residual.result
-    (put_again c.args.tables.now c.take_rows-rows.new.tables c.put_back.new.tables t c.update_rows-outcome.new.table.items c.take_rows-rows.ensures.left c.put_back.ensures (c.in_err-count.ensures.err ∙ c.take_rows-rows.ensures.rows) c.requires)
+    (put_again c.args.tables.now c.take_rows-rows.new.tables c.put_back.new.tables t c.update_rows-outcome.new.table.items c.take_rows-rows.ensures.left c.put_back.ensures (c.in_err-count.ensures.err ∙ c.take_rows-rows.ensures.rows) c.requires.table)
 
 pub returns-in-Ok-clause-ok : goal.returns-in-Ok-clause-ok
 returns-in-Ok-clause-ok c =
@@ -33,4 +33,4 @@ returns-in-Err-clause-ok c =
     let put = c.put_back.ensures ∙ ap (λ l. slice_set l t rows) c.take_rows-rows.ensures.left in
     let fact = (rw c.in-Err.is at c.in_ok-count.ensures.outcome) in
     change_failed tables c.put_back.new.tables t (length (kept_rows c.args.update.now.filter (rows_at tables t))) (each (updated c.args.columns.now c.args.update.now) (rows_at tables t)) c.in-Err.error rows []
-    (ap (each (updated c.args.columns.now c.args.update.now)) (sym c.take_rows-rows.ensures.rows) ∙ fact.0) (fact.1 ∙ c.take_rows-rows.ensures.rows) c.requires put
+    (ap (each (updated c.args.columns.now c.args.update.now)) (sym c.take_rows-rows.ensures.rows) ∙ fact.0) (fact.1 ∙ c.take_rows-rows.ensures.rows) c.requires.table put

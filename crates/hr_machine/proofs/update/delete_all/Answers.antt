@@ -2,7 +2,7 @@ use Rattle.std.proofs.Common.{ap, arith, length, not, refl, [], ◌∷◌, List}
 use Rattle.std.proofs.lemmas.List.Filters.{length-filter_both}
 use Rattle.hr_rel.specs.declared.value.Value.{Value}
 use Rattle.hr_meaning.specs.Truth.{is_kept}
-use Rattle.hr_machine.proofs.update.delete_rows.Goals as goal
+use Rattle.hr_machine.proofs.update.delete_all.Goals as goal
 
 pub overflow_sub-result : goal.overflow_sub-result
 overflow_sub-result c =
