@@ -13,7 +13,7 @@ use hr_rel::Name;
 use std::alloc::{AllocError, Global};
 
 /// A name as a line gives it.
-#[derive(Drop)]
+#[derive(Clone, Copy)]
 pub enum LineName {
     /// In small letters, at most [`MAX_NAME_BYTES`] bytes.
     Short(Name),
