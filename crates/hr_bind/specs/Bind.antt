@@ -1,23 +1,13 @@
--- Binding: the first problem of a table entry, else the least of all others, else the one bound statement.
+-- Binding: the problem that is told, else the one bound statement.
 use Rattle.std.specs.Prelude.{◌≡◌, ◌⊎◌, Option, Some, None, Result, Ok, Err}
 use Rattle.hr_rel.specs.declared.catalog.Catalog.{Catalog}
 use Rattle.hr_rel.specs.declared.stmt.Stmt.{Stmt}
 use Rattle.hr_parse.specs.declared.ast.Ast.{Ast}
-use Rattle.hr_bind.specs.declared.problem.Problem.{Problem}
+use Rattle.hr_problem.specs.declared.problem.Problem.{Problem}
 use Rattle.hr_bind.specs.declared.error.BindError.{BindError}
 use Rattle.hr_bind.specs.declared.error.BindError.TheVariants as e
-use Rattle.hr_bind.specs.Problems.{first_of, least}
-use Rattle.hr_bind.specs.Statements.{table_problems, problems}
+use Rattle.hr_check.specs.Told.{problem_of}
 use Rattle.hr_bind.specs.Bound.{bound}
-
--- the first that is there
-abbrev pub or_else : Option Problem → Option Problem → Option Problem
-or_else None other = other
-or_else (Some p) other = Some p
-
--- the problem that is told of a statement, if it has one
-unfoldable pub problem_of : Catalog → Ast → Option Problem
-problem_of catalog ast = or_else (first_of (table_problems catalog ast)) (least (problems catalog ast))
 
 -- the one bound statement, where there is no problem
 unfoldable pub bound_of : Catalog → Ast → Stmt

@@ -51,9 +51,9 @@ use Rattle.hr_parse.specs.declared.ast.CondAst.{CondAst, fold-CondAst}
 use Rattle.hr_parse.specs.declared.ast.CondAst.TheOpen.{CondAst-F}
 use Rattle.hr_parse.specs.declared.ast.ExprAst.{ExprAst, fold-ExprAst}
 use Rattle.hr_parse.specs.declared.ast.ExprKind.TheOpen.{ExprKind-F, ExprAst-F}
-use Rattle.hr_bind.specs.declared.problem.ProblemKind.{ProblemKind}
-use Rattle.hr_bind.specs.declared.scope.Place.{Place}
-use Rattle.hr_bind.specs.Scope.{Scope, Entry, table_of, column_of, meant, columns_in, scope_of, select_entries, alone}
+use Rattle.hr_problem.specs.declared.problem.ProblemKind.{ProblemKind}
+use Rattle.hr_names.specs.declared.scope.Place.{Place}
+use Rattle.hr_names.specs.Scope.{Scope, Entry, table_of, column_of, meant, columns_in, scope_of, select_entries, alone}
 
 -- ---- columns, literals and operands
 

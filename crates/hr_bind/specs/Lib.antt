@@ -1,10 +1,3 @@
-pub mod Problems
-pub mod Scope
-pub mod Operands
-pub mod Conditions
-pub mod Expressions
-pub mod Statements
 pub mod Bound
 pub mod Bind
-pub mod Sooner
-pub mod Seen
+pub mod Prepare

@@ -3,9 +3,9 @@ ghost use Rattle.std.specs.Prelude.{◌≡◌};
 ghost use Rattle.hr_bind.specs.declared.error.BindError.TheVariants as bind;
 ghost use Rattle.hr_bind.specs.declared.error.PrepareError.TheVariants as prepare;
 
-use crate::problem::{Problem, ProblemKind};
 use hr_lex::LexError;
 use hr_parse::ParseError;
+use hr_problem::Problem;
 use std::alloc::AllocError;
 use std::fmt;
 use thiserror::Error;
@@ -49,28 +49,6 @@ impl From<AllocError> for PrepareError {
 
     fn from(_refused: AllocError) -> PrepareError {
         PrepareError::NoMemory
-    }
-}
-
-impl fmt::Display for ProblemKind {
-    fn fmt<W: fmt::Write>(&self, f: &mut fmt::Formatter<W>) -> fmt::Result {
-        f.write_str(match self {
-            ProblemKind::UnknownTable => "no such table",
-            ProblemKind::UnknownColumn => "no such column",
-            ProblemKind::TypeMismatch => "a number and a text don't go together here",
-            ProblemKind::KeyAssigned => "the key can't be assigned",
-            ProblemKind::WrongArity => "too many or too few values",
-            ProblemKind::TextTooLong => "a text of more than 64 bytes",
-            ProblemKind::AggregateMix => "neither an aggregate nor a column of GROUP BY",
-            ProblemKind::NameTwice => "the same name twice",
-            ProblemKind::Ambiguous => "both tables have a column of this name",
-        })
-    }
-}
-
-impl fmt::Display for Problem {
-    fn fmt<W: fmt::Write>(&self, f: &mut fmt::Formatter<W>) -> fmt::Result {
-        write!(f, "at {}: {}", self.place, self.kind)
     }
 }
 

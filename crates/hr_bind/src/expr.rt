@@ -1,55 +1,14 @@
-//! Expressions: what is wrong with them, their kinds, and what they are bound to.
-ghost use Rattle.std.specs.Prelude.{◌≡◌, Some, IfOk};
-ghost use Rattle.hr_rel.specs.declared.catalog.ColKind.TheVariants as col;
-ghost use Rattle.hr_bind.specs.Problems.{least};
-ghost use Rattle.hr_bind.specs.Operands as operands;
-ghost use Rattle.hr_bind.specs.Expressions.{judged, as_number};
+//! Expressions: what they are bound to.
+ghost use Rattle.std.specs.Prelude.{◌≡◌, IfOk};
+ghost use Rattle.hr_names.specs.Seen.{seen};
 ghost use Rattle.hr_bind.specs.Bound as bound;
-ghost use Rattle.hr_bind.specs.Seen.{seen};
 
-use crate::operand::{
-    bound_column, bound_value, column_kind, column_problem, literal_kind, literal_problem, mismatch,
-};
-use crate::problem::{Problem, sooner};
-use crate::scope::ScopeRef;
+use crate::operand::{bound_column, bound_value};
+use hr_names::ScopeRef;
 use hr_parse::{ExprAst, ExprKind};
-use hr_rel::{ColKind, Expr};
+use hr_rel::Expr;
 use sqlite_items::Boxed;
 use std::alloc::{AllocError, Global};
-
-/// The kind of an expression. A sum, a difference or a product is a number, whatever its operands.
-pub fn expr_kind(scope: ScopeRef, expr: &ExprAst) -> Option<ColKind>
-    ensures { result ≡ (judged (seen scope.entry) expr.now).kind }
-{
-    match &expr.kind {
-        ExprKind::Literal(literal) => literal_kind(&literal.get().value),
-        ExprKind::Column(column) => column_kind(scope, column.get()),
-        ExprKind::Add(_, _) | ExprKind::Sub(_, _) | ExprKind::Mul(_, _) => Some(ColKind::Int),
-    }
-}
-
-/// An operand of `+`, `-` or `*` that is no number.
-fn not_number(scope: ScopeRef, expr: &ExprAst) -> Option<Problem>
-    ensures { result ≡ least (operands.mismatch (Some col.Int) (judged (seen scope.entry) expr.now).kind (judged (seen scope.entry) expr.now).at) }
-{
-    mismatch(Some(ColKind::Int), expr_kind(scope, expr), expr.at)
-}
-
-/// The least problem of an expression.
-#[tactic(auto, using(crate::proofs::Least::least_append))]
-pub fn expr_problem(scope: ScopeRef, expr: &ExprAst) -> Option<Problem>
-    ensures { result ≡ least (judged (seen scope.entry) expr.now).problems }
-{
-    match &expr.kind {
-        ExprKind::Literal(literal) => literal_problem(literal.get()),
-        ExprKind::Column(column) => column_problem(scope, column.get()),
-        ExprKind::Add(a, b) | ExprKind::Sub(a, b) | ExprKind::Mul(a, b) => {
-            let left = sooner(expr_problem(scope, a.get()), not_number(scope, a.get()));
-            let right = sooner(expr_problem(scope, b.get()), not_number(scope, b.get()));
-            sooner(left, right)
-        }
-    }
-}
 
 pub fn bound_expr(alloc: Global, scope: ScopeRef, expr: &ExprAst) -> Result<Expr, AllocError>
     ensures { IfOk result (λ e. e ≡ bound.bound_expr (seen scope.entry) expr.now) }

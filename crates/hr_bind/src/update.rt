@@ -1,80 +1,15 @@
-//! UPDATE: what is wrong with it, and what it is bound to.
-ghost use Rattle.std.specs.Prelude.{◌≡◌, flat_map, map, IfOk};
-ghost use Rattle.hr_bind.specs.Problems.{least};
-ghost use Rattle.hr_bind.specs.Statements as spec;
+//! UPDATE: what it is bound to.
+ghost use Rattle.std.specs.Prelude.{◌≡◌, map, IfOk};
+ghost use Rattle.hr_names.specs.Seen.{seen};
 ghost use Rattle.hr_bind.specs.Bound as bound;
-ghost use Rattle.hr_bind.specs.Seen.{seen};
 
-use crate::cond::{bound_filter, filter_problem};
-use crate::expr::{bound_expr, expr_kind, expr_problem};
-use crate::names::{kind_of, named_twice, unknown_name};
-use crate::operand::{mismatch, small};
-use crate::problem::{Problem, ProblemKind, none_at_all, problem_where, sooner};
-use crate::scope::{ScopeRef, column_of};
+use crate::cond::bound_filter;
+use crate::expr::bound_expr;
+use crate::operand::small;
+use hr_names::{ScopeRef, column_of};
 use hr_parse::{SetAst, UpdateAst};
 use hr_rel::{ColumnDef, Seq, Set, UpdateStmt};
 use std::alloc::{AllocError, Global};
-
-fn is_key(column: Option<usize>) -> bool
-    ensures { result ≡ spec.is_key column }
-{
-    matches!(column, Some(0))
-}
-
-/// An assignment: to a column that is there and isn't the key, of an expression of its kind.
-#[tactic(auto, using(crate::proofs::Least::least_append))]
-fn set_problem(scope: ScopeRef, columns: &[ColumnDef], set: &SetAst) -> Option<Problem>
-    ensures { result ≡ least (spec.set_problems (seen scope.entry) columns.now set.now) }
-{
-    let column = column_of(columns, set.column.name.bytes());
-    let unknown = unknown_name(columns, &set.column);
-    let key = problem_where(is_key(column), ProblemKind::KeyAssigned, set.column.at);
-    let front = sooner(sooner(unknown, key), expr_problem(scope, &set.value));
-    let kind = expr_kind(scope, &set.value);
-    sooner(
-        front,
-        mismatch(kind_of(columns, column), kind, set.value.at),
-    )
-}
-
-#[tactic(auto, using(crate::proofs::Least::least_append))]
-fn assigned_twice(columns: &[ColumnDef], set: &SetAst, later: &[SetAst]) -> Option<Problem>
-    ensures { result ≡ least (flat_map (spec.assigned_twice columns.now set.now) later.now) }
-{
-    match later {
-        [] => None,
-        [other, rest @ ..] => sooner(
-            named_twice(columns, &set.column, &other.column),
-            assigned_twice(columns, set, rest),
-        ),
-    }
-}
-
-#[tactic(auto, using(crate::proofs::Least::least_append))]
-fn sets_problem(scope: ScopeRef, columns: &[ColumnDef], sets: &[SetAst]) -> Option<Problem>
-    ensures { result ≡ least (spec.sets_problems (seen scope.entry) columns.now sets.now) }
-{
-    match sets {
-        [] => None,
-        [set, rest @ ..] => {
-            let front = sooner(
-                set_problem(scope, columns, set),
-                assigned_twice(columns, set, rest),
-            );
-            sooner(front, sets_problem(scope, columns, rest))
-        }
-    }
-}
-
-/// The least problem of an UPDATE of a table that is there.
-#[tactic(auto, using(crate::proofs::Least::least_append))]
-pub fn update_problem(scope: ScopeRef, columns: &[ColumnDef], update: &UpdateAst) -> Option<Problem>
-    ensures { result ≡ least (spec.update_problems (seen scope.entry) columns.now update.now) }
-{
-    let empty = none_at_all(update.sets.as_slice());
-    let front = sooner(empty, sets_problem(scope, columns, update.sets.as_slice()));
-    sooner(front, filter_problem(scope, &update.filter))
-}
 
 fn bound_set(
     alloc: Global,

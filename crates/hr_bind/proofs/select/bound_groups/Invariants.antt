@@ -1,6 +1,6 @@
 use Rattle.std.proofs.Common.{◌≡◌, map, take}
 use Rattle.hr_bind.specs.Bound.{bound_column}
-use Rattle.hr_bind.specs.Seen.{seen}
+use Rattle.hr_names.specs.Seen.{seen}
 use Rattle.hr_bind.proofs.select.bound_groups.Given as goal
 
 abbrev pub invariant-loop-group : goal.invariant-loop-group

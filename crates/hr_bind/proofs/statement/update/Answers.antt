@@ -1,7 +1,7 @@
 use Rattle.std.proofs.Common.{◌≡◌, ℕ, List, IfOk, subst}
 use Rattle.hr_rel.specs.declared.catalog.ColumnDef.{ColumnDef}
-use Rattle.hr_bind.specs.Scope.{Scope, table_of, scope_of, alone}
-use Rattle.hr_bind.specs.Seen.{seen}
+use Rattle.hr_names.specs.Scope.{Scope, table_of, scope_of, alone}
+use Rattle.hr_names.specs.Seen.{seen}
 use Rattle.hr_bind.specs.Bound.{bound_update}
 use Rattle.hr_bind.proofs.statement.update.Goals as goal
 

@@ -1,6 +1,6 @@
 use Rattle.std.proofs.Common.{◌≡◌, map, take}
 use Rattle.hr_bind.specs.Bound.{bound_set}
-use Rattle.hr_bind.specs.Seen.{seen}
+use Rattle.hr_names.specs.Seen.{seen}
 use Rattle.hr_bind.proofs.update.bound_sets.Given as goal
 
 abbrev pub invariant-loop-set : goal.invariant-loop-set

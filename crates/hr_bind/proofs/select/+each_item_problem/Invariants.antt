@@ -1,5 +1,0 @@
-use Rattle.std.proofs.Common.{length}
-use Rattle.hr_bind.proofs.select.+each_item_problem.Given as goal
-
-abbrev pub decreases-each_item_problem : goal.decreases-each_item_problem
-decreases-each_item_problem l = length l.items.now

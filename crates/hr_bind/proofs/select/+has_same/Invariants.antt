@@ -1,5 +1,0 @@
-use Rattle.std.proofs.Common.{length}
-use Rattle.hr_bind.proofs.select.+has_same.Given as goal
-
-abbrev pub decreases-has_same : goal.decreases-has_same
-decreases-has_same l = length l.groups.now

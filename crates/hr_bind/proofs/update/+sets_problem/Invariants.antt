@@ -1,5 +1,0 @@
-use Rattle.std.proofs.Common.{length}
-use Rattle.hr_bind.proofs.update.+sets_problem.Given as goal
-
-abbrev pub decreases-sets_problem : goal.decreases-sets_problem
-decreases-sets_problem l = length l.sets.now

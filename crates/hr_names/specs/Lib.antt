@@ -1,0 +1,4 @@
+pub mod Scope
+pub mod Operands
+pub mod Names
+pub mod Seen
