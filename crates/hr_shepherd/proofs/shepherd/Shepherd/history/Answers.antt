@@ -1,0 +1,25 @@
+use Rattle.std.proofs.Common.{◌≡◌, ℕ, ◌*◌, ◌≤◌, Some, None, IsTrue, sym, ◌∙◌, ap, subst}
+use Rattle.hr_history.specs.declared.entry.Event.TheVariants as event
+use Rattle.hr_history.specs.Faithful.{fits_job, is_restart}
+use Rattle.hr_history.specs.Replicas.{out_at}
+use Rattle.hr_history.specs.View.{View}
+use Rattle.hr_history.specs.Jobs.{job_in}
+use Rattle.hr_history.specs.Words.{job}
+use Rattle.hr_ledger.specs.Chronicle.{Chronicle, history_in, view_in, HasBegun, IsFaithful, IsQuiet, IsAllowed}
+use Rattle.hr_core.specs.Turns.{HasTurn}
+use Rattle.hr_records.proofs.KeptLemmas.{kept}
+use Rattle.hr_serial.proofs.PrefixLemmas.{at_prefix}
+use Rattle.hr_shepherd.proofs.Allowed.{quiet_faithful}
+use Rattle.hr_shepherd.proofs.shepherd.Shepherd.history.Goals as goal
+
+pub returns-clause-entries : goal.returns-clause-entries
+returns-clause-entries c = c.entries.ensures ∙ ap (λ (s : Chronicle). s.entries) (c.ledger-2.ensures ∙ c.deref-2.ensures ∙ c.self.view_is)
+
+pub returns-clause-faithful : goal.returns-clause-faithful
+returns-clause-faithful c = subst IsFaithful c.self.view_is (quiet_faithful c.self.inside.core.value (subst HasBegun (c.ledger.ensures ∙ c.deref.ensures) c.begun.ensures) c.self.invariant)
+
+pub returns-clause-prefix : goal.returns-clause-prefix
+returns-clause-prefix c = λ r.
+    let s = c.args.self.now in
+    let begun = subst HasBegun (c.ledger.ensures ∙ c.deref.ensures ∙ c.self.view_is) c.begun.ensures in
+    at_prefix (history_in s) (kept s.f s.sessions (history_in s) begun) r

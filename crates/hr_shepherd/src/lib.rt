@@ -1,0 +1,8 @@
+//! The shepherd: it stands between sessions and `2f + 1` databases, of which up to `f` may answer wrongly.
+//!
+//! Its value is the one kept history. Whatever calls made it, and whatever the replicas replied, that history follows the rules.
+#![tactic(auto)]
+
+mod shepherd;
+
+pub use shepherd::Shepherd;

@@ -1,0 +1,113 @@
+//! The public surface of the core.
+ghost use Rattle.std.specs.Prelude.{◌≡◌, ◌≤◌, ◌*◌, ℕ, [], length, IfOk, IsTrue};
+ghost use Rattle.hr_history.specs.Faithful.{fits_job, is_restart, replica_caller};
+ghost use Rattle.hr_history.specs.Primary as history;
+ghost use Rattle.hr_history.specs.Replicas.{out_at};
+ghost use Rattle.hr_history.specs.Transactions as transactions;
+ghost use Rattle.hr_history.specs.declared.entry.Event.TheVariants as event;
+ghost use Rattle.hr_serial.specs.Prefix.{IsAtPrefix};
+ghost use Rattle.hr_ledger.specs.Chronicle.{history_in, view_in, IsFaithful};
+ghost use Rattle.hr_core.specs.Suspects as suspicions;
+ghost use Rattle.hr_core.specs.Turns.{HasTurn};
+
+use hr_core::Core;
+use hr_entries::Entries;
+use hr_history::JobReply;
+use hr_progress::View;
+use std::alloc::{AllocError, Global};
+use std::marker::Model;
+
+/// The shepherd of `2f + 1` replicas and so many sessions. Contracts see its history, with `f` and the number of sessions.
+#[derive(Drop)]
+pub struct Shepherd {
+    core: Box<Core>,
+}
+
+impl Model for Shepherd {
+    ghost use Rattle.hr_ledger.specs.Chronicle.{Chronicle, IsQuiet};
+
+    ghost Value = { Chronicle };
+
+    // the code of conditions and expressions, which hold themselves
+    ghost use Rattle.std.specs.Coded.{codes};
+    ghost use Rattle.hr_rel.specs.contracts.expr.Pred as pred;
+    ghost use Rattle.hr_rel.specs.contracts.expr.Expr as expr;
+
+    ghost coded = { Prim.hlevel (codes, pred.the_row.coded, expr.the_row.coded) };
+
+    ghost view = { λ s. s.core.value };
+
+    ghost invariant = { λ s. IsQuiet s.core.value };
+}
+
+impl Shepherd {
+    /// A shepherd before anything happened: replica 0 is the primary.
+    pub fn new(alloc: Global, f: u32, sessions: u32) -> Result<Shepherd, AllocError>
+        requires few { f ≤ 3 }
+        ensures { IfOk result (λ shepherd. shepherd ≡ record { f = f; sessions = sessions; entries = [] }) }
+    {
+        let core = Core::new(alloc, f, sessions)?;
+        match Box::new(alloc, core) {
+            Ok(core) => Ok(Shepherd { core }),
+            Err(_) => Err(AllocError),
+        }
+    }
+
+    /// A replica replies to its job. It takes no memory, and isn't refused.
+    pub fn give(&mut self, caller: u64, replica: u32, reply: JobReply)
+        requires known { replica ≤ 2 * self.old.f }
+        requires caller { caller ≡ replica_caller replica }
+        requires fits { IsTrue (fits_job reply (out_at replica (history_in self.old))) }
+        ensures { HasTurn caller (event.Give replica reply) self.old self.new }
+    {
+        self.core.give(caller, replica, reply);
+    }
+
+    /// A replica is restarted, and tells how many commits it has made. It takes no memory, and isn't refused.
+    pub fn restarted(&mut self, caller: u64, replica: u32, count: u64)
+        requires known { replica ≤ 2 * self.old.f }
+        requires caller { caller ≡ replica_caller replica }
+        requires out { IsTrue (is_restart (out_at replica (history_in self.old))) }
+        ensures { HasTurn caller (event.Restarted replica count) self.old self.new }
+    {
+        self.core.restarted(caller, replica, count);
+    }
+
+    /// How many transactions are decided.
+    pub fn commits(&self) -> u64
+        ensures { result ≡ length (transactions.log (history_in self.now)) }
+    {
+        self.core.ledger().view().commits()
+    }
+
+    /// How often the primary was suspected.
+    pub fn suspects(&self) -> u64
+        ensures { result ≡ suspicions.suspects (history_in self.now) }
+    {
+        self.core.suspects()
+    }
+
+    /// The primary, if there is one.
+    pub fn primary(&self) -> Option<u32>
+        ensures { result ≡ history.primary_of (history_in self.now) }
+    {
+        self.core.ledger().view().primary()
+    }
+
+    /// The view that the history has.
+    pub fn view(&self) -> &View
+        ensures { result.now ≡ view_in self.now }
+    {
+        self.core.ledger().view()
+    }
+
+    /// The history, lent. It follows the rules, and each replica, whatever it replies, is at a prefix of the log.
+    pub fn history(&self) -> Entries<'_>
+        ensures entries { result ≡ self.now.entries }
+        ensures faithful { IsFaithful self.now }
+        ensures prefix { (r : ℕ) → IsAtPrefix (history_in self.now) r }
+    {
+        self.core.ledger().begun();
+        self.core.ledger().entries()
+    }
+}
