@@ -1,4 +1,5 @@
 ghost use Rattle.std.specs.Prelude.{◌≡◌, ◌<◌, [], true, length, slice_get, slice_set, unwrap_or, IfOk, OnOk, OnErr};
+ghost use Rattle.hr_rel.specs.Database.{with_rows};
 ghost use Rattle.hr_rel.specs.Fit.{is_joined, insert_fits, update_fits, delete_fits, select_fits};
 ghost use Rattle.hr_meaning.specs.Value.{each};
 ghost use Rattle.hr_meaning.specs.Select.{answer_from};
@@ -11,7 +12,7 @@ use crate::select::{from_pairs, from_rows};
 use crate::update::{delete_rows, update_rows};
 use hr_rel::{
     Answer, Catalog, ColumnDef, DeleteStmt, InsertStmt, Row, Rows, RunError, SelectStmt, Seq, Stmt,
-    UpdateStmt,
+    Table, UpdateStmt,
 };
 use std::alloc::{AllocError, Global};
 use std::marker::Model;
@@ -109,6 +110,14 @@ impl Machine {
         ensures after { self.new ≡ (meaning self.old (Stmt.Delete delete.now)).after }
     {
         delete_from(self.alloc, &mut self.tables, delete)
+    }
+
+    /// Gives a table other rows; takes no memory.
+    pub fn put_table(&mut self, table: usize, rows: Table)
+        requires { table < length self.old.tables }
+        ensures { self.new ≡ with_rows self.old table rows }
+    {
+        self.tables.set(table, rows);
     }
 
     /// The rows of each table.
