@@ -1,5 +1,6 @@
 ghost use Rattle.std.specs.Prelude.{◌≡◌, ◌<◌, [], true, length, slice_get, slice_set, unwrap_or, IfOk, OnOk, OnErr};
-ghost use Rattle.hr_rel.specs.Holds.{is_ordered};
+ghost use Rattle.hr_rel.specs.Database.{with_rows};
+ghost use Rattle.hr_rel.specs.Holds.{is_ordered, IsOrdered};
 ghost use Rattle.hr_rel.specs.Fit.{is_joined, insert_fits, update_fits, delete_fits, select_fits};
 ghost use Rattle.hr_meaning.specs.Value.{each};
 ghost use Rattle.hr_meaning.specs.Select.{answer_from};
@@ -13,7 +14,7 @@ use crate::update::{delete_rows, update_rows};
 use hr_keys::in_order;
 use hr_rel::{
     Answer, Catalog, ColumnDef, DeleteStmt, InsertStmt, Row, Rows, RunError, SelectStmt, Seq, Stmt,
-    TryCopy, UpdateStmt,
+    Table, TryCopy, UpdateStmt,
 };
 use std::alloc::{AllocError, Global};
 use std::marker::Model;
@@ -129,6 +130,15 @@ impl Machine {
         ensures after { self.new ≡ (meaning self.old (Stmt.Delete delete.now)).after }
     {
         delete_from(self.alloc, &mut self.tables, delete, self.ordered)
+    }
+
+    /// Gives a table other rows, in order; takes no memory.
+    pub fn put_table(&mut self, table: usize, rows: Table)
+        requires place { table < length self.old.tables }
+        requires ordered { IsOrdered (with_rows self.old table rows) }
+        ensures { self.new ≡ with_rows self.old table rows }
+    {
+        self.tables.set(table, rows);
     }
 
     /// The rows of each table.

@@ -1,0 +1,4 @@
+pub mod Slots
+pub mod Runs
+pub mod Ends
+pub mod Loops
