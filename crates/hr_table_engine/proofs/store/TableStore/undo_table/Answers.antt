@@ -10,6 +10,10 @@ use Rattle.hr_table_engine.proofs.Runs.{at_now}
 use Rattle.hr_table_engine.proofs.Ends.{slot_is, undo_base, undo_others, undo_sized, undo_ordered, undo_kept}
 use Rattle.hr_table_engine.proofs.store.TableStore.undo_table.Goals as goal
 
+pub put_table-requires-clause-ordered : goal.put_table-requires-clause-ordered
+put_table-requires-clause-ordered c =
+    undo_ordered c.args.self.now.slots.items c.args.self.now.machine c.args.at c.in-Some.before (slot_is c.args.self.now.slots.items c.args.at c.index_mut.result.now c.requires c.index_mut.ensures.value ∙ sym c.take.ensures.value ∙ c.in-Some.is) c.args.self.now.kept c.args.self.now.ordered
+
 pub invariant_of-self : goal.invariant_of-self
 invariant_of-self c = record {
   sized = at_now (λ (x : List (Option Before)) (y : Database). length x ≡ length y.tables) _ (slice_set c.args.self.now.slots.items c.args.at None) _ (with_rows c.args.self.now.machine c.args.at c.in-Some.before.rows) (ap (slice_set c.args.self.now.slots.items c.args.at) c.take.ensures.after) c.put_table.ensures
