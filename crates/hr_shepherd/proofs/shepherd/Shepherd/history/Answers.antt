@@ -9,6 +9,7 @@ use Rattle.hr_ledger.specs.Chronicle.{Chronicle, history_in, view_in, HasBegun, 
 use Rattle.hr_core.specs.Turns.{HasTurn}
 use Rattle.hr_records.proofs.KeptLemmas.{kept}
 use Rattle.hr_serial.proofs.PrefixLemmas.{at_prefix}
+use Rattle.hr_serial.proofs.SerialLemmas.{serial}
 use Rattle.hr_shepherd.proofs.Allowed.{quiet_faithful}
 use Rattle.hr_shepherd.proofs.shepherd.Shepherd.history.Goals as goal
 
@@ -23,3 +24,9 @@ returns-clause-prefix c = λ r.
     let s = c.args.self.now in
     let begun = subst HasBegun (c.ledger.ensures ∙ c.deref.ensures ∙ c.self.view_is) c.begun.ensures in
     at_prefix (history_in s) (kept s.f s.sessions (history_in s) begun) r
+
+pub returns-clause-serial : goal.returns-clause-serial
+returns-clause-serial c = λ db few.
+    let s = c.args.self.now in
+    let begun = subst HasBegun (c.ledger.ensures ∙ c.deref.ensures ∙ c.self.view_is) c.begun.ensures in
+    serial s.f s.sessions db (history_in s) begun few
