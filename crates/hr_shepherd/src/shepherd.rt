@@ -6,6 +6,7 @@ ghost use Rattle.hr_history.specs.Replicas.{out_at};
 ghost use Rattle.hr_history.specs.Transactions as transactions;
 ghost use Rattle.hr_history.specs.declared.entry.Event.TheVariants as event;
 ghost use Rattle.hr_rel.specs.Database.{Database};
+ghost use Rattle.hr_history.specs.Words.{IsDecidable, IsContradicted};
 ghost use Rattle.hr_serial.specs.Prefix.{IsAtPrefix};
 ghost use Rattle.hr_serial.specs.Serial.{LiarsAreAtMost, AtEachDecide, AreSerial};
 ghost use Rattle.hr_ledger.specs.Chronicle.{history_in, view_in, IsFaithful};
@@ -113,11 +114,13 @@ impl Shepherd {
 
     /// The history, lent. It follows the rules. Each replica, whatever it replies, is at a prefix of the log. Where at each
     /// decision at most `f` replicas weren't correct until then, the accepted answers are those of the log's transactions run
-    /// alone, one after another.
+    /// alone, one after another. Nothing is left that may be decided, or whose given answers are contradicted.
     pub fn history(&self) -> Entries<'_>
         ensures entries { result ≡ self.now.entries }
         ensures faithful { IsFaithful self.now }
         ensures prefix { (r : ℕ) → IsAtPrefix (history_in self.now) r }
+        ensures decided { (t : ℕ) → IsDecidable self.now.f (history_in self.now) t → ⊥ }
+        ensures contradicted { (t : ℕ) → IsContradicted self.now.f (history_in self.now) t → ⊥ }
         ensures serial { (db : Database) → AtEachDecide (LiarsAreAtMost self.now.f self.now.f db) (history_in self.now) → AreSerial db (history_in self.now) }
     {
         self.core.ledger().begun();
