@@ -1,11 +1,14 @@
 //! The public surface of the core.
-ghost use Rattle.std.specs.Prelude.{◌≡◌, ◌≤◌, ◌*◌, ℕ, [], length, IfOk, IsTrue};
+ghost use Rattle.std.specs.Prelude.{◌≡◌, ◌≤◌, ◌*◌, ℕ, [], length, IfOk, OnOk, OnErr, IsTrue};
 ghost use Rattle.hr_history.specs.Faithful.{fits_job, is_restart, replica_caller};
 ghost use Rattle.hr_history.specs.Primary as history;
 ghost use Rattle.hr_history.specs.Replicas.{out_at};
 ghost use Rattle.hr_history.specs.Transactions as transactions;
 ghost use Rattle.hr_history.specs.declared.entry.Event.TheVariants as event;
+ghost use Rattle.hr_rel.specs.Database.{Database};
+ghost use Rattle.hr_history.specs.Words.{IsDecidable, IsContradicted};
 ghost use Rattle.hr_serial.specs.Prefix.{IsAtPrefix};
+ghost use Rattle.hr_serial.specs.Serial.{LiarsAreAtMost, AtEachDecide, AreSerial};
 ghost use Rattle.hr_ledger.specs.Chronicle.{history_in, view_in, IsFaithful};
 ghost use Rattle.hr_core.specs.Suspects as suspicions;
 ghost use Rattle.hr_core.specs.Turns.{HasTurn};
@@ -73,6 +76,14 @@ impl Shepherd {
         self.core.restarted(caller, replica, count);
     }
 
+    /// Somebody suspects the primary. Refused only for want of memory.
+    pub fn suspect(&mut self, caller: u64) -> Result<(), AllocError>
+        ensures ok { OnOk result (HasTurn caller event.Suspect self.old self.new) }
+        ensures err { OnErr result (self.new ≡ self.old) }
+    {
+        self.core.suspect(caller)
+    }
+
     /// How many transactions are decided.
     pub fn commits(&self) -> u64
         ensures { result ≡ length (transactions.log (history_in self.now)) }
@@ -101,11 +112,16 @@ impl Shepherd {
         self.core.ledger().view()
     }
 
-    /// The history, lent. It follows the rules, and each replica, whatever it replies, is at a prefix of the log.
+    /// The history, lent. It follows the rules. Each replica, whatever it replies, is at a prefix of the log. Where at each
+    /// decision at most `f` replicas weren't correct until then, the accepted answers are those of the log's transactions run
+    /// alone, one after another. Nothing is left that may be decided, or whose given answers are contradicted.
     pub fn history(&self) -> Entries<'_>
         ensures entries { result ≡ self.now.entries }
         ensures faithful { IsFaithful self.now }
         ensures prefix { (r : ℕ) → IsAtPrefix (history_in self.now) r }
+        ensures decided { (t : ℕ) → IsDecidable self.now.f (history_in self.now) t → ⊥ }
+        ensures contradicted { (t : ℕ) → IsContradicted self.now.f (history_in self.now) t → ⊥ }
+        ensures serial { (db : Database) → AtEachDecide (LiarsAreAtMost self.now.f self.now.f db) (history_in self.now) → AreSerial db (history_in self.now) }
     {
         self.core.ledger().begun();
         self.core.ledger().entries()

@@ -8,7 +8,10 @@ use Rattle.hr_history.specs.Words.{job}
 use Rattle.hr_ledger.specs.Chronicle.{Chronicle, history_in, view_in, HasBegun, IsFaithful, IsQuiet, IsAllowed}
 use Rattle.hr_core.specs.Turns.{HasTurn}
 use Rattle.hr_records.proofs.KeptLemmas.{kept}
+use Rattle.hr_history.specs.Turn.{turn_of}
+use Rattle.hr_decisions.proofs.DecisionLemmas.{nothing_after, none_decidable, none_contradicted}
 use Rattle.hr_serial.proofs.PrefixLemmas.{at_prefix}
+use Rattle.hr_serial.proofs.SerialLemmas.{serial}
 use Rattle.hr_shepherd.proofs.Allowed.{quiet_faithful}
 use Rattle.hr_shepherd.proofs.shepherd.Shepherd.history.Goals as goal
 
@@ -23,3 +26,21 @@ returns-clause-prefix c = λ r.
     let s = c.args.self.now in
     let begun = subst HasBegun (c.ledger.ensures ∙ c.deref.ensures ∙ c.self.view_is) c.begun.ensures in
     at_prefix (history_in s) (kept s.f s.sessions (history_in s) begun) r
+
+pub returns-clause-serial : goal.returns-clause-serial
+returns-clause-serial c = λ db few.
+    let s = c.args.self.now in
+    let begun = subst HasBegun (c.ledger.ensures ∙ c.deref.ensures ∙ c.self.view_is) c.begun.ensures in
+    serial s.f s.sessions db (history_in s) begun few
+
+pub returns-clause-decided : goal.returns-clause-decided
+returns-clause-decided c = λ t is.
+    let s = c.args.self.now in
+    let faithful = subst IsFaithful c.self.view_is (quiet_faithful c.self.inside.core.value (subst HasBegun (c.ledger.ensures ∙ c.deref.ensures) c.begun.ensures) c.self.invariant) in
+    none_decidable (view_in s) (turn_of (history_in s)) (nothing_after s.f s.sessions (history_in s) faithful) t is
+
+pub returns-clause-contradicted : goal.returns-clause-contradicted
+returns-clause-contradicted c = λ t is.
+    let s = c.args.self.now in
+    let faithful = subst IsFaithful c.self.view_is (quiet_faithful c.self.inside.core.value (subst HasBegun (c.ledger.ensures ∙ c.deref.ensures) c.begun.ensures) c.self.invariant) in
+    none_contradicted (view_in s) (turn_of (history_in s)) (nothing_after s.f s.sessions (history_in s) faithful) t is
