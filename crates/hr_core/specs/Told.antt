@@ -6,7 +6,7 @@ use Rattle.hr_history.specs.Replies.{reply_to, refusal_of}
 use Rattle.hr_history.specs.Transactions.{begun}
 use Rattle.hr_history.specs.Turn.{replies_to_runs}
 use Rattle.hr_ledger.specs.Chronicle.{Chronicle, history_in}
-use Rattle.hr_core.specs.declared.core.Core.TheInside.{Inside}
+use Rattle.hr_core.specs.declared.whole.Core.TheInside.{Inside}
 use Rattle.hr_core.specs.declared.seat.Seat.{Seat}
 use Rattle.hr_core.specs.declared.seat.Shown.{Shown}
 use Rattle.hr_core.specs.Seats.{state_kept, refusal_kept, seat_in, refusal_in}

@@ -5,9 +5,9 @@
 //! each transaction was refused, so that nothing is looked up in the history.
 #![tactic(auto)]
 
-mod core;
 mod refusals;
 mod seat;
+mod whole;
 
-pub use crate::core::Core;
 pub use hr_ledger::Ledger;
+pub use whole::Core;
