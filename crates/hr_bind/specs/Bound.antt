@@ -1,5 +1,5 @@
 -- The bound statement of a tree that has no problem. It is total: a name that means nothing is column 0 of entry 0.
-use Rattle.std.specs.Prelude.{ℕ, suc, Bool, true, false, ◌==◌, if◌then◌else◌, Option, Some, None, unwrap_or, Result, Ok, Err, List, [], ◌∷◌, ◌++◌, length, map, fold, slice_get, position}
+use Rattle.std.specs.Prelude.{ℕ, suc, Bool, true, false, ◌==◌, if◌then◌else◌, Option, Some, None, unwrap_or, Result, Ok, Err, List, [], ◌∷◌, ◌++◌, length, map, slice_get, position}
 use Rattle.std.specs.List.{range_with_len}
 use Rattle.std.specs.Option.{option_map, option_and_then}
 use Rattle.hr_base.specs.Lists.{is_empty}
@@ -53,7 +53,7 @@ use Rattle.hr_parse.specs.declared.ast.ExprAst.{ExprAst, fold-ExprAst}
 use Rattle.hr_parse.specs.declared.ast.ExprKind.TheOpen.{ExprKind-F, ExprAst-F}
 use Rattle.hr_problem.specs.declared.problem.ProblemKind.{ProblemKind}
 use Rattle.hr_names.specs.declared.scope.Place.{Place}
-use Rattle.hr_names.specs.Scope.{Scope, Entry, table_of, column_of, meant, columns_in, scope_of, select_entries, alone}
+use Rattle.hr_names.specs.Scope.{Scope, table_of, column_of, meant, columns_in, scope_of, select_entries, alone}
 
 -- ---- columns, literals and operands
 
