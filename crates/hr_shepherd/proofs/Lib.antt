@@ -1,1 +1,3 @@
 pub mod Allowed
+pub mod Owners
+pub mod Lent

@@ -3,6 +3,9 @@
 //! Its value is the one kept history. Whatever calls made it, and whatever the replicas replied, that history follows the rules.
 #![tactic(auto)]
 
+mod gate;
+mod refusal;
 mod shepherd;
 
+pub use refusal::Refusal;
 pub use shepherd::Shepherd;

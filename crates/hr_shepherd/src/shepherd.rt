@@ -1,8 +1,6 @@
 //! The public surface of the core.
-ghost use Rattle.std.specs.Prelude.{◌≡◌, ◌≤◌, ◌*◌, ℕ, [], length, IfOk, OnOk, OnErr, IsTrue};
-ghost use Rattle.hr_history.specs.Faithful.{fits_job, is_restart, replica_caller};
+ghost use Rattle.std.specs.Prelude.{◌≡◌, ◌≤◌, ℕ, None, [], length, IfOk, OnOk, OnErr};
 ghost use Rattle.hr_history.specs.Primary as history;
-ghost use Rattle.hr_history.specs.Replicas.{out_at};
 ghost use Rattle.hr_history.specs.Transactions as transactions;
 ghost use Rattle.hr_history.specs.declared.entry.Event.TheVariants as event;
 ghost use Rattle.hr_rel.specs.Database.{Database};
@@ -12,10 +10,14 @@ ghost use Rattle.hr_serial.specs.Serial.{LiarsAreAtMost, AtEachDecide, AreSerial
 ghost use Rattle.hr_ledger.specs.Chronicle.{history_in, view_in, IsFaithful};
 ghost use Rattle.hr_core.specs.Suspects as suspicions;
 ghost use Rattle.hr_core.specs.Turns.{HasTurn};
+ghost use Rattle.hr_shepherd.specs.Refused.{IsRefusedFor};
 
+mod replicas;
+mod sessions;
+
+use crate::refusal::Refusal;
 use hr_core::Core;
 use hr_entries::Entries;
-use hr_history::JobReply;
 use hr_progress::View;
 use std::alloc::{AllocError, Global};
 use std::marker::Model;
@@ -56,32 +58,14 @@ impl Shepherd {
         }
     }
 
-    /// A replica replies to its job. It takes no memory, and isn't refused.
-    pub fn give(&mut self, caller: u64, replica: u32, reply: JobReply)
-        requires known { replica ≤ 2 * self.old.f }
-        requires caller { caller ≡ replica_caller replica }
-        requires fits { IsTrue (fits_job reply (out_at replica (history_in self.old))) }
-        ensures { HasTurn caller (event.Give replica reply) self.old self.new }
-    {
-        self.core.give(caller, replica, reply);
-    }
-
-    /// A replica is restarted, and tells how many commits it has made. It takes no memory, and isn't refused.
-    pub fn restarted(&mut self, caller: u64, replica: u32, count: u64)
-        requires known { replica ≤ 2 * self.old.f }
-        requires caller { caller ≡ replica_caller replica }
-        requires out { IsTrue (is_restart (out_at replica (history_in self.old))) }
-        ensures { HasTurn caller (event.Restarted replica count) self.old self.new }
-    {
-        self.core.restarted(caller, replica, count);
-    }
-
     /// Somebody suspects the primary. Refused only for want of memory.
-    pub fn suspect(&mut self, caller: u64) -> Result<(), AllocError>
+    pub fn suspect(&mut self, caller: u64) -> Result<(), Refusal>
+        ensures refused { IsRefusedFor None result }
         ensures ok { OnOk result (HasTurn caller event.Suspect self.old self.new) }
         ensures err { OnErr result (self.new ≡ self.old) }
     {
-        self.core.suspect(caller)
+        self.core.suspect(caller)?;
+        Ok(())
     }
 
     /// How many transactions are decided.

@@ -1,12 +1,5 @@
-use Rattle.std.proofs.Common.{◌≡◌, ℕ, ◌*◌, ◌≤◌, Some, None, IsTrue, sym, ◌∙◌, ap, subst}
-use Rattle.hr_history.specs.declared.entry.Event.TheVariants as event
-use Rattle.hr_history.specs.Faithful.{fits_job, is_restart}
-use Rattle.hr_history.specs.Replicas.{out_at}
-use Rattle.hr_history.specs.View.{View}
-use Rattle.hr_history.specs.Jobs.{job_in}
-use Rattle.hr_history.specs.Words.{job}
-use Rattle.hr_ledger.specs.Chronicle.{Chronicle, history_in, view_in, HasBegun, IsFaithful, IsQuiet, IsAllowed}
-use Rattle.hr_core.specs.Turns.{HasTurn}
+use Rattle.std.proofs.Common.{◌∙◌, ap, subst}
+use Rattle.hr_ledger.specs.Chronicle.{Chronicle, history_in, view_in, HasBegun, IsFaithful}
 use Rattle.hr_records.proofs.KeptLemmas.{kept}
 use Rattle.hr_history.specs.Turn.{turn_of}
 use Rattle.hr_decisions.proofs.DecisionLemmas.{nothing_after, none_decidable, none_contradicted}

@@ -1,11 +1,6 @@
-use Rattle.std.proofs.Common.{◌≡◌, ℕ, ◌*◌, ◌≤◌, Some, None, IsTrue, sym, ◌∙◌, ap, subst}
+use Rattle.std.proofs.Common.{sym, ◌∙◌, subst}
 use Rattle.hr_history.specs.declared.entry.Event.TheVariants as event
-use Rattle.hr_history.specs.Faithful.{fits_job, is_restart}
-use Rattle.hr_history.specs.Replicas.{out_at}
-use Rattle.hr_history.specs.View.{View}
-use Rattle.hr_history.specs.Jobs.{job_in}
-use Rattle.hr_history.specs.Words.{job}
-use Rattle.hr_ledger.specs.Chronicle.{Chronicle, history_in, view_in, HasBegun, IsFaithful, IsQuiet, IsAllowed}
+use Rattle.hr_ledger.specs.Chronicle.{Chronicle, IsQuiet, IsAllowed}
 use Rattle.hr_core.specs.Turns.{HasTurn}
 use Rattle.hr_shepherd.proofs.Allowed.{restart_allowed}
 use Rattle.hr_shepherd.proofs.shepherd.Shepherd.restarted.Goals as goal

@@ -1,0 +1,9 @@
+use Rattle.std.proofs.Common.{sym, subst, ◌∙◌}
+use Rattle.hr_ledger.specs.Chronicle.{IsQuiet}
+use Rattle.hr_shepherd.proofs.shepherd.Shepherd.submit.Goals as goal
+
+pub submit-requires-clause-quiet : goal.submit-requires-clause-quiet
+submit-requires-clause-quiet c = subst IsQuiet (sym c.deref_mut.ensures.value) c.self.invariant
+
+pub invariant_of-self : goal.invariant_of-self
+invariant_of-self c = subst IsQuiet (sym (c.in_err-index.ensures.err ∙ c.deref_mut.ensures.value)) c.self.invariant
