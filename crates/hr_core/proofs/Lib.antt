@@ -7,3 +7,4 @@ pub mod Causes
 pub mod Silent
 pub mod Firsts
 pub mod Waits
+pub mod Copied

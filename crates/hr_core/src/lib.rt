@@ -5,6 +5,7 @@
 //! each transaction was refused, so that nothing is looked up in the history.
 #![tactic(auto)]
 
+mod copies;
 mod refusals;
 mod seat;
 mod whole;

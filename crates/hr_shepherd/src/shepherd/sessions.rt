@@ -1,9 +1,11 @@
 //! The calls of sessions. A refused one changes nothing.
-ghost use Rattle.std.specs.Prelude.{◌≡◌, ◌≤◌, ◌+◌, length, IfOk, OnOk, OnErr};
+ghost use Rattle.std.specs.Prelude.{◌≡◌, ◌≤◌, ◌+◌, length, is_some, IfOk, OnOk, OnErr, IsTrue};
 ghost use Rattle.hr_history.specs.Faithful.{session_caller};
+ghost use Rattle.hr_history.specs.Replies.{reply_to, ending_of};
 ghost use Rattle.hr_history.specs.Transactions as transactions;
 ghost use Rattle.hr_history.specs.declared.entry.Event.TheVariants as event;
 ghost use Rattle.hr_ledger.specs.Chronicle.{history_in};
+ghost use Rattle.hr_core.specs.Copies.{reply_in};
 ghost use Rattle.hr_core.specs.Turns.{HasTurn};
 ghost use Rattle.hr_shepherd.specs.Refused as told;
 ghost use Rattle.hr_shepherd.specs.Refused.{IsRefusedFor};
@@ -12,8 +14,9 @@ use crate::gate::{refused, refused_begin, refused_submit};
 use crate::refusal::Refusal;
 use crate::shepherd::Shepherd;
 use hr_engine::TxnId;
+use hr_history::{Ending, Reply};
 use hr_rel::Stmt;
-use std::alloc::Global;
+use std::alloc::{AllocError, Global};
 
 impl Shepherd {
     /// A session begins a transaction. Gives its number. Refused where the session has an open one, and else at most for want
@@ -76,5 +79,25 @@ impl Shepherd {
         }
         self.core.ask_rollback(caller, txn);
         Ok(())
+    }
+
+    /// The reply to a session's last Submit or AskCommit, if there is one: the answer, the place of the commit, or why its
+    /// transaction was refused. Wants memory only where there is a reply.
+    pub fn collect(&self, alloc: Global, session: u32) -> Result<Option<Reply>, AllocError>
+        requires first { 1 ≤ session }
+        requires last { session ≤ self.now.sessions }
+        ensures ok { IfOk result (λ reply. reply ≡ reply_in (reply_to session (history_in self.now))) }
+        ensures err { OnErr result (IsTrue (is_some (reply_in (reply_to session (history_in self.now))))) }
+    {
+        self.core.collect(alloc, session)
+    }
+
+    /// How a transaction ended: none while it is open, and where there is no such transaction. Wants memory only where it has
+    /// ended.
+    pub fn ending(&self, alloc: Global, txn: TxnId) -> Result<Option<Ending>, AllocError>
+        ensures ok { IfOk result (λ ending. ending ≡ ending_of txn (history_in self.now)) }
+        ensures err { OnErr result (IsTrue (is_some (ending_of txn (history_in self.now)))) }
+    {
+        self.core.ending(alloc, txn)
     }
 }
