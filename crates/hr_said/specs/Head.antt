@@ -1,6 +1,6 @@
 -- The lines that say how many replicas there are, of which kind, and how often transactions are tried. For each form of a
 -- line the refusals stand in rising order of their kinds, and the first that applies is told.
-use Rattle.std.specs.Prelude.{◌+◌, ◌*◌, ℕ, Bool, true, false, not, ◌&&◌, ◌||◌, ◌==◌, nat_le, List, [], ◌∷◌, length, map, replicate, Option, Some, None, unwrap_or, Result}
+use Rattle.std.specs.Prelude.{◌+◌, ◌*◌, Bool, not, ◌&&◌, ◌||◌, ◌==◌, List, [], ◌∷◌, length, map, replicate, Option, unwrap_or, Result}
 use Rattle.std.specs.List.{list_any}
 use Rattle.std.specs.Option.{is_none}
 use Rattle.hr_base.specs.Lists.{when, first_some}

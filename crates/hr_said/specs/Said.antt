@@ -1,5 +1,5 @@
 -- What lines have said: nothing at first, and at last a scenario.
-use Rattle.std.specs.Prelude.{ℕ, ◌==◌, Bool, true, false, if◌then◌else◌, List, [], Option, Some, None}
+use Rattle.std.specs.Prelude.{◌==◌, Bool, false, if◌then◌else◌, List, [], Option, Some, None}
 use Rattle.hr_said.specs.declared.scenario.Scenario.{Scenario}
 use Rattle.hr_said.specs.declared.scenario.Choice.{Choice}
 use Rattle.hr_said.specs.declared.said.Said.{Said}
