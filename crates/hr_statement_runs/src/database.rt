@@ -5,7 +5,7 @@ use hr_answer_text::write;
 use hr_bind::prepare;
 use hr_forms::{LineForm, form_of};
 use hr_machine::Machine;
-use hr_rel::{Catalog, Seq, TableDef, TryCopy};
+use hr_rel::{Catalog, Seq, Stmt, TableDef, TryCopy};
 use std::alloc::{AllocError, Global};
 
 /// The tables, and a machine that runs statements on them.
@@ -58,9 +58,16 @@ impl Database {
     /// Runs a statement: the text of its answer, or why there is none.
     fn run(&mut self, alloc: Global, text: &str) -> Result<String, AllocError> {
         match prepare(alloc, text, &self.catalog) {
-            Ok(stmt) => write(alloc, &self.machine.run(&stmt)?),
+            Ok(stmt) => self.answer(alloc, &stmt),
             Err(error) => format!(in alloc; "{error}"),
         }
+    }
+
+    /// Runs a copy of a statement, and writes a copy of its answer: so copies are seen to be whole.
+    fn answer(&mut self, alloc: Global, stmt: &Stmt) -> Result<String, AllocError> {
+        let stmt = stmt.try_copy(alloc)?;
+        let answer = self.machine.run(&stmt)?;
+        write(alloc, &answer.try_copy(alloc)?)
     }
 }
 
