@@ -1,0 +1,34 @@
+-- What a history tells of convictions and preemptions, from its first entry on.
+use Rattle.std.specs.Prelude.{ℕ, ◌==◌, Bool, false, List, [], ◌++◌, filter, length, codes}
+use Rattle.std.specs.List.{flat_map}
+use Rattle.std.specs.Fmt.{decimal}
+use Rattle.hr_base.specs.Texts.{Text, line}
+use Rattle.hr_history.specs.declared.entry.Entry.{Entry}
+use Rattle.hr_history.specs.declared.entry.Event.{Event}
+use Rattle.hr_history.specs.declared.entry.Event.TheVariants as event
+use Rattle.hr_history.specs.declared.evidence.Evidence.{Evidence}
+use Rattle.hr_history.specs.declared.evidence.Evidence.TheVariants as evidence
+
+-- what shows that a replica isn't correct
+abbrev pub evidence_text : Evidence → Text
+evidence_text (evidence.Contradicted txn index) = codes "contradicted txn " ++ decimal txn ++ codes " statement " ++ decimal index
+evidence_text (evidence.Differs txn index) = codes "differs txn " ++ decimal txn ++ codes " statement " ++ decimal index
+evidence_text (evidence.BadBlocked txn) = codes "blocked txn " ++ decimal txn
+evidence_text (evidence.BadDeadlock txn) = codes "deadlock txn " ++ decimal txn
+evidence_text (evidence.BadRestart count) = codes "restart " ++ decimal count
+
+-- a conviction has a line; nothing else has
+abbrev pub conviction_text : Event → Text
+conviction_text (event.Convict replica shown) = line (codes "convicted " ++ decimal replica ++ codes " " ++ evidence_text shown)
+conviction_text _ = []
+
+abbrev pub convictions_text : List Entry → Text
+convictions_text entries = flat_map (λ (e : Entry). conviction_text e.event) entries
+
+abbrev pub is_preempt_at : ℕ → Event → Bool
+is_preempt_at r (event.Preempt replica txn) = replica == r
+is_preempt_at r _ = false
+
+-- how often a transaction was preempted at a replica
+abbrev pub preempted : ℕ → List Entry → ℕ
+preempted r entries = length (filter (λ (e : Entry). is_preempt_at r e.event) entries)

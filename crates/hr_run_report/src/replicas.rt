@@ -1,0 +1,129 @@
+//! Where each replica stands, with the rows that it has committed.
+ghost use Rattle.std.specs.Prelude.{◌≡◌, ◌++◌, ◌+◌, ◌*◌, ◌<◌, ◌≤◌, ◌^◌, true, length, OnOk, string_bytes};
+ghost use Rattle.std.specs.List.{flat_map, list_all, zip};
+ghost use Rattle.hr_base.specs.Bytes.{is_printable};
+ghost use Rattle.hr_base.specs.Texts.{each_from};
+ghost use Rattle.hr_run_report.specs.Report as report;
+
+use crate::convictions::preempted;
+use hr_answer_text::push_row;
+use hr_forms::EngineKind;
+use hr_rel::{Catalog, Row, Rows, Table, TableDef};
+use hr_shepherd::Shepherd;
+use std::alloc::AllocError;
+
+/// Writes the replicas from number `first` on.
+pub fn push_replicas(
+    out: &mut String,
+    first: u32,
+    kinds: &[EngineKind],
+    catalog: &Catalog,
+    shepherd: &Shepherd,
+    dumps: &[Rows],
+) -> Result<(), AllocError>
+    requires { first + length kinds.now ≤ 2 * shepherd.now.f + 1 }
+    ensures { OnOk result (string_bytes out.new ≡ string_bytes out.old ++ each_from (report.replica_text shepherd.now catalog.now) first (zip kinds.now dumps.now)) }
+{
+    let [kind, kinds @ ..] = kinds else {
+        return Ok(());
+    };
+    let [tables, dumps @ ..] = dumps else {
+        return Ok(());
+    };
+    push_replica(out, first, *kind, shepherd)?;
+    push_tables(out, catalog.tables.as_slice(), tables.as_slice())?;
+    push_replicas(out, first + 1, kinds, catalog, shepherd, dumps)
+}
+
+// Writes the line that tells where a replica stands.
+fn push_replica(
+    out: &mut String,
+    replica: u32,
+    kind: EngineKind,
+    shepherd: &Shepherd,
+) -> Result<(), AllocError>
+    requires { replica ≤ 2 * shepherd.now.f }
+    ensures { OnOk result (string_bytes out.new ≡ string_bytes out.old ++ report.standing_line shepherd.now replica kind) }
+{
+    let view = shepherd.view();
+    let position = view.position(replica);
+    let preempted = preempted(shepherd, replica);
+    write!(out, "replica {replica} ")?;
+    out.push_str(kind_word(kind))?;
+    write!(out, " position {position} preempted {preempted} ")?;
+    out.push_str(state_word(view.is_convicted(replica), view.is_lost(replica)))?;
+    out.push_str(role_text(shepherd.primary() == Some(replica)))?;
+    writeln!(out)
+}
+
+fn kind_word(kind: EngineKind) -> &'static str
+    ensures { result.now ≡ report.kind_word kind }
+{
+    match kind {
+        EngineKind::ByTable => "table",
+        EngineKind::ByRange => "range",
+    }
+}
+
+fn state_word(convicted: bool, lost: bool) -> &'static str
+    ensures { result.now ≡ report.state_word convicted lost }
+{
+    if convicted {
+        "convicted"
+    } else if lost {
+        "lost"
+    } else {
+        "live"
+    }
+}
+
+fn role_text(is_primary: bool) -> &'static str
+    ensures { result.now ≡ report.role_text is_primary }
+{
+    if is_primary { " primary" } else { "" }
+}
+
+fn push_tables(out: &mut String, defs: &[TableDef], tables: &[Table]) -> Result<(), AllocError>
+    ensures { OnOk result (string_bytes out.new ≡ string_bytes out.old ++ flat_map report.table_text (zip defs.now tables.now)) }
+{
+    let [def, defs @ ..] = defs else {
+        return Ok(());
+    };
+    let [rows, tables @ ..] = tables else {
+        return Ok(());
+    };
+    push_table(out, def, rows)?;
+    push_tables(out, defs, tables)
+}
+
+fn push_table(out: &mut String, def: &TableDef, rows: &Table) -> Result<(), AllocError>
+    ensures { OnOk result (string_bytes out.new ≡ string_bytes out.old ++ report.table_text (def.now, rows.now)) }
+{
+    let count = rows.len();
+    write!(out, "table ")?;
+    push_plain(out, def.name.bytes())?;
+    writeln!(out, " {count}")?;
+    push_rows(out, rows.as_slice())
+}
+
+// Writes rows, each on a line of its own.
+fn push_rows(out: &mut String, rows: &[Row]) -> Result<(), AllocError>
+    ensures { OnOk result (string_bytes out.new ≡ string_bytes out.old ++ report.rows_text rows.now) }
+{
+    'rows: for row in rows {
+        push_row(out, row.as_slice())?;
+        writeln!(out)?;
+    }
+    Ok(())
+}
+
+// Writes the bytes of a name as they are.
+fn push_plain(out: &mut String, bytes: &[u8]) -> Result<(), AllocError>
+    requires { list_all is_printable bytes.now ≡ true }
+    ensures { OnOk result (string_bytes out.new ≡ string_bytes out.old ++ bytes.now) }
+{
+    'bytes: for byte in bytes {
+        out.push(*byte as char)?;
+    }
+    Ok(())
+}
