@@ -1,5 +1,5 @@
 -- What a history tells of convictions and preemptions, from its first entry on.
-use Rattle.std.specs.Prelude.{ℕ, ◌==◌, Bool, false, List, [], ◌++◌, filter, length, codes}
+use Rattle.std.specs.Prelude.{ℕ, ◌==◌, if◌then◌else◌, Bool, false, Option, Some, None, List, [], ◌++◌, filter, length, codes}
 use Rattle.std.specs.List.{flat_map}
 use Rattle.std.specs.Fmt.{decimal}
 use Rattle.hr_base.specs.Texts.{Text, line}
@@ -9,12 +9,19 @@ use Rattle.hr_history.specs.declared.entry.Event.TheVariants as event
 use Rattle.hr_history.specs.declared.evidence.Evidence.{Evidence}
 use Rattle.hr_history.specs.declared.evidence.Evidence.TheVariants as evidence
 
+-- what a word says of a transaction, and of a statement of it
+abbrev pub of_txn : Text → ℕ → Text
+of_txn word txn = word ++ codes " txn " ++ decimal txn
+
+abbrev pub of_statement : Text → ℕ → ℕ → Text
+of_statement word txn index = of_txn word txn ++ codes " statement " ++ decimal index
+
 -- what shows that a replica isn't correct
 abbrev pub evidence_text : Evidence → Text
-evidence_text (evidence.Contradicted txn index) = codes "contradicted txn " ++ decimal txn ++ codes " statement " ++ decimal index
-evidence_text (evidence.Differs txn index) = codes "differs txn " ++ decimal txn ++ codes " statement " ++ decimal index
-evidence_text (evidence.BadBlocked txn) = codes "blocked txn " ++ decimal txn
-evidence_text (evidence.BadDeadlock txn) = codes "deadlock txn " ++ decimal txn
+evidence_text (evidence.Contradicted txn index) = of_statement (codes "contradicted") txn index
+evidence_text (evidence.Differs txn index) = of_statement (codes "differs") txn index
+evidence_text (evidence.BadBlocked txn) = of_txn (codes "blocked") txn
+evidence_text (evidence.BadDeadlock txn) = of_txn (codes "deadlock") txn
 evidence_text (evidence.BadRestart count) = codes "restart " ++ decimal count
 
 -- a conviction has a line; nothing else has
@@ -28,6 +35,11 @@ convictions_text entries = flat_map (λ (e : Entry). conviction_text e.event) en
 abbrev pub is_preempt_at : ℕ → Event → Bool
 is_preempt_at r (event.Preempt replica txn) = replica == r
 is_preempt_at r _ = false
+
+-- how many preemptions at a replica an entry tells
+abbrev pub preempts_in : ℕ → Option Entry → ℕ
+preempts_in r None = 0
+preempts_in r (Some e) = if is_preempt_at r e.event then 1 else 0
 
 -- how often a transaction was preempted at a replica
 abbrev pub preempted : ℕ → List Entry → ℕ

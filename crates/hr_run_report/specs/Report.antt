@@ -1,11 +1,13 @@
 -- The report of a run: what was committed, with the accepted answers; how each try of each session ended; who was convicted;
 -- and where each replica stands, with its committed rows.
-use Rattle.std.specs.Prelude.{ℕ, Bool, ◌==◌, if◌then◌else◌, Option, Some, None, unwrap_or, List, [], ◌++◌, length, map, codes}
+use Rattle.std.specs.Prelude.{ℕ, Bool, ◌==◌, if◌then◌else◌, Option, Some, None, unwrap_or, List, [], ◌++◌, length, codes}
 use Rattle.std.specs.List.{flat_map, find, zip}
 use Rattle.std.specs.Option.{option_map}
 use Rattle.std.specs.Fmt.{decimal}
 use Rattle.hr_base.specs.Texts.{Text, line, each_from}
 use Rattle.hr_base.specs.Lists.{numbered}
+use Rattle.hr_engine.specs.declared.reply.RunReply.{RunReply}
+use Rattle.hr_engine.specs.declared.reply.RunReply.TheVariants as run
 use Rattle.hr_rel.specs.declared.value.Value.{Value}
 use Rattle.hr_rel.specs.declared.answer.Answer.{Answer}
 use Rattle.hr_rel.specs.declared.catalog.Catalog.{Catalog}
@@ -33,10 +35,15 @@ own_tries tries session = unwrap_or (numbered tries session) []
 abbrev pub numbered_answer : ℕ → Answer → Text
 numbered_answer i answer = line (codes "answer " ++ decimal i ++ codes " " ++ answer_text answer)
 
--- the line of an answer, where there is one
-abbrev pub answer_if : ℕ → Option Answer → Text
-answer_if i None = []
-answer_if i (Some answer) = numbered_answer i answer
+-- the text of an item, where there is one
+abbrev pub text_if : {X : Type 0} → (ℕ → X → Text) → ℕ → Option X → Text
+text_if text n None = []
+text_if text n (Some x) = text n x
+
+-- the answer of a reply, if it has one
+abbrev pub answer_in : Option RunReply → Option Answer
+answer_in (Some (run.Done answer)) = Some answer
+answer_in _ = None
 
 -- a transaction of this session, at its place in the log
 abbrev pub commit_line : ℕ → ℕ → ℕ → ℕ → Text
@@ -76,17 +83,22 @@ state_word convicted lost = if convicted then codes "convicted" else (if lost th
 abbrev pub role_text : Bool → Text
 role_text is_primary = if is_primary then codes " primary" else []
 
--- where a replica stands
-abbrev pub replica_line : ℕ → EngineKind → ℕ → ℕ → Bool → Bool → Bool → Text
-replica_line r kind position preempted convicted lost is_primary =
-    line (codes "replica " ++ decimal r ++ codes " " ++ kind_word kind ++ codes " position " ++ decimal position ++ codes " preempted " ++ decimal preempted
-    ++ codes " " ++ state_word convicted lost ++ role_text is_primary)
+-- a replica's number, and what kind of engine it has
+abbrev pub kind_text : ℕ → EngineKind → Text
+kind_text r kind = codes "replica " ++ decimal r ++ codes " " ++ kind_word kind
 
--- where a replica of this kind stands, by the history
+-- how much a replica has committed, and how often a transaction gave way there
+abbrev pub work_text : Chronicle → ℕ → Text
+work_text c r = codes " position " ++ decimal (replica_in (view_in c) r).position ++ codes " preempted " ++ decimal (preempted r c.entries)
+
+-- whether a replica is live, and the primary
+abbrev pub state_text : Chronicle → ℕ → Text
+state_text c r =
+    line (codes " " ++ state_word (replica_in (view_in c) r).convicted (replica_in (view_in c) r).lost ++ role_text (is_primary (view_in c) r))
+
+-- where a replica of this kind stands
 abbrev pub standing_line : Chronicle → ℕ → EngineKind → Text
-standing_line c r kind =
-    let s = replica_in (view_in c) r in
-    replica_line r kind s.position (preempted r c.entries) s.convicted s.lost (is_primary (view_in c) r)
+standing_line c r kind = kind_text r kind ++ work_text c r ++ state_text c r
 
 -- rows, each on a line of its own
 abbrev pub rows_text : List (List Value) → Text

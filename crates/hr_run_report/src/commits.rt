@@ -8,8 +8,8 @@ ghost use Rattle.hr_run_report.specs.Report as report;
 
 use crate::tried::Tried;
 use hr_answer_text::push_answer;
-use hr_engine::TxnId;
-use hr_progress::{View, done_at};
+use hr_engine::{RunReply, TxnId};
+use hr_progress::View;
 use hr_rel::{Answer, Seq};
 use hr_shepherd::Shepherd;
 use std::alloc::AllocError;
@@ -22,7 +22,18 @@ pub fn push_commits(
 ) -> Result<(), AllocError>
     ensures { OnOk result (string_bytes out.new ≡ string_bytes out.old ++ each_from (report.commit_text shepherd.now tries.now) 1 (report.committed shepherd.now)) }
 {
-    'log: for (before, txn) in shepherd.view().log().iter().enumerate() {
+    push_log(out, shepherd, tries, shepherd.view().log())
+}
+
+fn push_log(
+    out: &mut String,
+    shepherd: &Shepherd,
+    tries: &[Seq<Tried>],
+    log: &[TxnId],
+) -> Result<(), AllocError>
+    ensures { OnOk result (string_bytes out.new ≡ string_bytes out.old ++ each_from (report.commit_text shepherd.now tries.now) 1 log.now) }
+{
+    'log: for (before, txn) in log.iter().enumerate() {
         push_commit(out, shepherd, tries, before + 1, *txn)?;
     }
     Ok(())
@@ -90,7 +101,7 @@ fn push_numbered_answer(
     txn: TxnId,
     index: u32,
 ) -> Result<(), AllocError>
-    ensures { OnOk result (string_bytes out.new ≡ string_bytes out.old ++ report.answer_if index (numbered (given_in view.now txn) index)) }
+    ensures { OnOk result (string_bytes out.new ≡ string_bytes out.old ++ report.text_if report.numbered_answer index (numbered (given_in view.now txn) index)) }
 {
     let Some(answer) = given(view, txn, index) else {
         return Ok(());
@@ -105,5 +116,15 @@ fn given(view: &View, txn: TxnId, index: u32) -> Option<&Answer>
     ensures { option_copied result ≡ numbered (given_in view.now txn) index }
 {
     let place = view.given_place(txn, index)?;
-    done_at(view.replies(), place)
+    answer_in(view.replies().get(place))
+}
+
+// The answer of a reply, if it has one.
+fn answer_in(reply: Option<&RunReply>) -> Option<&Answer>
+    ensures { option_copied result ≡ report.answer_in (option_copied reply.entry) }
+{
+    match reply {
+        Some(RunReply::Done(answer)) => Some(answer),
+        _ => None,
+    }
 }

@@ -1,5 +1,5 @@
 //! How a transaction ended, and if it was refused, why.
-ghost use Rattle.std.specs.Prelude.{◌≡◌, ◌++◌, OnOk, string_bytes};
+ghost use Rattle.std.specs.Prelude.{◌≡◌, ◌++◌, OnOk, option_copied, string_bytes};
 ghost use Rattle.hr_run_report.specs.Endings as endings;
 
 use hr_answer_text::push_answer;
@@ -10,7 +10,7 @@ use std::alloc::AllocError;
 
 /// Writes how a transaction ended.
 pub fn push_ending(out: &mut String, ending: Option<&Ending>) -> Result<(), AllocError>
-    ensures { OnOk result (string_bytes out.new ≡ string_bytes out.old ++ endings.ending_text ending.now) }
+    ensures { OnOk result (string_bytes out.new ≡ string_bytes out.old ++ endings.ending_text (option_copied ending.entry)) }
 {
     match ending {
         None => writeln!(out, "unfinished"),

@@ -1,8 +1,10 @@
 //! Where each replica stands, with the rows that it has committed.
-ghost use Rattle.std.specs.Prelude.{◌≡◌, ◌++◌, ◌+◌, ◌*◌, ◌<◌, ◌≤◌, ◌^◌, true, length, OnOk, string_bytes};
+ghost use Rattle.std.specs.Prelude.{◌≡◌, ◌++◌, ◌+◌, ◌*◌, ◌<◌, ◌≤◌, ◌^◌, true, length, slice_get, option_copied, OnOk, string_bytes};
 ghost use Rattle.std.specs.List.{flat_map, list_all, zip};
 ghost use Rattle.hr_base.specs.Bytes.{is_printable};
 ghost use Rattle.hr_base.specs.Texts.{each_from};
+ghost use Rattle.hr_history.specs.Processed.{is_primary};
+ghost use Rattle.hr_ledger.specs.Chronicle.{view_in};
 ghost use Rattle.hr_run_report.specs.Report as report;
 
 use crate::convictions::preempted;
@@ -12,31 +14,74 @@ use hr_rel::{Catalog, Row, Rows, Table, TableDef};
 use hr_shepherd::Shepherd;
 use std::alloc::AllocError;
 
-/// Writes the replicas from number `first` on.
+/// Writes the replicas, by their numbers.
 pub fn push_replicas(
     out: &mut String,
-    first: u32,
     kinds: &[EngineKind],
     catalog: &Catalog,
     shepherd: &Shepherd,
     dumps: &[Rows],
 ) -> Result<(), AllocError>
-    requires { first + length kinds.now ≤ 2 * shepherd.now.f + 1 }
-    ensures { OnOk result (string_bytes out.new ≡ string_bytes out.old ++ each_from (report.replica_text shepherd.now catalog.now) first (zip kinds.now dumps.now)) }
+    requires { length kinds.now ≤ 2 * shepherd.now.f + 1 }
+    ensures { OnOk result (string_bytes out.new ≡ string_bytes out.old ++ each_from (report.replica_text shepherd.now catalog.now) 0 (zip kinds.now dumps.now)) }
 {
-    let [kind, kinds @ ..] = kinds else {
+    'replicas: for replica in 0..2 * shepherd.view().f() + 1 {
+        push_replica(out, replica, kinds, catalog, shepherd, dumps)?;
+    }
+    Ok(())
+}
+
+fn kind_at(kinds: &[EngineKind], replica: u32) -> Option<&EngineKind>
+    ensures { option_copied result ≡ slice_get kinds.now replica }
+{
+    kinds.get(replica as usize)
+}
+
+fn dump_at(dumps: &[Rows], replica: u32) -> Option<&Rows>
+    ensures { option_copied result ≡ slice_get dumps.now replica }
+{
+    dumps.get(replica as usize)
+}
+
+// Writes a replica with its committed rows, where there is such a one.
+fn push_replica(
+    out: &mut String,
+    replica: u32,
+    kinds: &[EngineKind],
+    catalog: &Catalog,
+    shepherd: &Shepherd,
+    dumps: &[Rows],
+) -> Result<(), AllocError>
+    requires { replica ≤ 2 * shepherd.now.f }
+    ensures { OnOk result (string_bytes out.new ≡ string_bytes out.old ++ report.text_if (report.replica_text shepherd.now catalog.now) replica (slice_get (zip kinds.now dumps.now) replica)) }
+{
+    let Some(kind) = kind_at(kinds, replica) else {
         return Ok(());
     };
-    let [tables, dumps @ ..] = dumps else {
+    let Some(tables) = dump_at(dumps, replica) else {
         return Ok(());
     };
-    push_replica(out, first, *kind, shepherd)?;
-    push_tables(out, catalog.tables.as_slice(), tables.as_slice())?;
-    push_replicas(out, first + 1, kinds, catalog, shepherd, dumps)
+    push_held(out, replica, *kind, catalog, shepherd, tables)
+}
+
+// Writes where a replica stands, and the rows that it has committed.
+fn push_held(
+    out: &mut String,
+    replica: u32,
+    kind: EngineKind,
+    catalog: &Catalog,
+    shepherd: &Shepherd,
+    tables: &Rows,
+) -> Result<(), AllocError>
+    requires { replica ≤ 2 * shepherd.now.f }
+    ensures { OnOk result (string_bytes out.new ≡ string_bytes out.old ++ report.replica_text shepherd.now catalog.now replica (kind, tables.now)) }
+{
+    push_standing(out, replica, kind, shepherd)?;
+    push_tables(out, catalog.tables.as_slice(), tables.as_slice())
 }
 
 // Writes the line that tells where a replica stands.
-fn push_replica(
+fn push_standing(
     out: &mut String,
     replica: u32,
     kind: EngineKind,
@@ -45,14 +90,36 @@ fn push_replica(
     requires { replica ≤ 2 * shepherd.now.f }
     ensures { OnOk result (string_bytes out.new ≡ string_bytes out.old ++ report.standing_line shepherd.now replica kind) }
 {
-    let view = shepherd.view();
-    let position = view.position(replica);
-    let preempted = preempted(shepherd, replica);
+    push_kind(out, replica, kind)?;
+    push_work(out, replica, shepherd)?;
+    push_state(out, replica, shepherd)
+}
+
+fn push_kind(out: &mut String, replica: u32, kind: EngineKind) -> Result<(), AllocError>
+    ensures { OnOk result (string_bytes out.new ≡ string_bytes out.old ++ report.kind_text replica kind) }
+{
     write!(out, "replica {replica} ")?;
-    out.push_str(kind_word(kind))?;
-    write!(out, " position {position} preempted {preempted} ")?;
+    out.push_str(kind_word(kind))
+}
+
+// Writes how much a replica has committed, and how often a transaction gave way there.
+fn push_work(out: &mut String, replica: u32, shepherd: &Shepherd) -> Result<(), AllocError>
+    requires { replica ≤ 2 * shepherd.now.f }
+    ensures { OnOk result (string_bytes out.new ≡ string_bytes out.old ++ report.work_text shepherd.now replica) }
+{
+    let position = shepherd.view().position(replica);
+    let preempted = preempted(shepherd, replica);
+    write!(out, " position {position} preempted {preempted}")
+}
+
+fn push_state(out: &mut String, replica: u32, shepherd: &Shepherd) -> Result<(), AllocError>
+    requires { replica ≤ 2 * shepherd.now.f }
+    ensures { OnOk result (string_bytes out.new ≡ string_bytes out.old ++ report.state_text shepherd.now replica) }
+{
+    let view = shepherd.view();
+    write!(out, " ")?;
     out.push_str(state_word(view.is_convicted(replica), view.is_lost(replica)))?;
-    out.push_str(role_text(shepherd.primary() == Some(replica)))?;
+    out.push_str(role_text(is_primary(shepherd, replica)))?;
     writeln!(out)
 }
 
@@ -74,6 +141,15 @@ fn state_word(convicted: bool, lost: bool) -> &'static str
         "lost"
     } else {
         "live"
+    }
+}
+
+fn is_primary(shepherd: &Shepherd, replica: u32) -> bool
+    ensures { result ≡ is_primary (view_in shepherd.now) replica }
+{
+    match shepherd.primary() {
+        Some(primary) => primary == replica,
+        None => false,
     }
 }
 

@@ -32,7 +32,7 @@ pub fn report_text(
     push_commits(&mut out, shepherd, tries)?;
     push_sessions(alloc, &mut out, shepherd, tries)?;
     push_convictions(&mut out, shepherd)?;
-    push_replicas(&mut out, 0, kinds, catalog, shepherd, dumps)?;
+    push_replicas(&mut out, kinds, catalog, shepherd, dumps)?;
     writeln!(out, "end")?;
     Ok(out)
 }

@@ -20,7 +20,7 @@ pub fn push_sessions(
     ensures { OnOk result (string_bytes out.new ≡ string_bytes out.old ++ each_from (report.session_text shepherd.now) 1 tries.now) }
 {
     'sessions: for (before, own) in tries.iter().enumerate() {
-        push_session(alloc, out, shepherd, before + 1, own.as_slice())?;
+        push_session(alloc, out, shepherd, before + 1, own)?;
     }
     Ok(())
 }
@@ -30,12 +30,12 @@ fn push_session(
     out: &mut String,
     shepherd: &Shepherd,
     session: usize,
-    tries: &[Tried],
+    tries: &Seq<Tried>,
 ) -> Result<(), AllocError>
     ensures { OnOk result (string_bytes out.new ≡ string_bytes out.old ++ report.session_text shepherd.now session tries.now) }
 {
     writeln!(out, "session {session}")?;
-    push_tries(alloc, out, shepherd, tries)
+    push_tries(alloc, out, shepherd, tries.as_slice())
 }
 
 fn push_tries(
