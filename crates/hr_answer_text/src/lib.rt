@@ -3,4 +3,4 @@
 
 mod text;
 
-pub use text::write;
+pub use text::{push_answer, push_row, write};

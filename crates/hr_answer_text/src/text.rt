@@ -17,7 +17,8 @@ pub fn write(alloc: Global, answer: &Answer) -> Result<String, AllocError>
     Ok(text)
 }
 
-fn push_answer(out: &mut String, answer: &Answer) -> Result<(), AllocError>
+/// Writes an answer's text behind what stands there.
+pub fn push_answer(out: &mut String, answer: &Answer) -> Result<(), AllocError>
     ensures { OnOk result (string_bytes out.new ≡ string_bytes out.old ++ answer_text answer.now) }
 {
     match answer {
@@ -44,7 +45,8 @@ fn push_rows(out: &mut String, rows: &[Row]) -> Result<(), AllocError>
     Ok(())
 }
 
-fn push_row(out: &mut String, row: &[Value]) -> Result<(), AllocError>
+/// Writes a row behind what stands there: its values as SQL literals, in parentheses.
+pub fn push_row(out: &mut String, row: &[Value]) -> Result<(), AllocError>
     ensures { OnOk result (string_bytes out.new ≡ string_bytes out.old ++ row_text row.now) }
 {
     write!(out, "(")?;

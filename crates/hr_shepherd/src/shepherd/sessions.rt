@@ -105,4 +105,11 @@ impl Shepherd {
     {
         self.core.ending(alloc, txn)
     }
+
+    /// The session of a transaction, if there is such a transaction.
+    pub fn session(&self, txn: TxnId) -> Option<u32>
+        ensures { result ≡ transactions.session_of txn (history_in self.now) }
+    {
+        self.core.ledger().session(txn)
+    }
 }

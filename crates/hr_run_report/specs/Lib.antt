@@ -1,0 +1,3 @@
+pub mod Endings
+pub mod Convictions
+pub mod Report

@@ -1,0 +1,13 @@
+//! The report of a run: what was committed, how each session's tries ended, who was convicted, and where each replica stands.
+#![tactic(auto)]
+
+mod commits;
+mod convictions;
+mod endings;
+mod replicas;
+mod report;
+mod sessions;
+mod tried;
+
+pub use report::report_text;
+pub use tried::Tried;
