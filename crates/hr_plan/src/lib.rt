@@ -5,6 +5,7 @@ mod bounds;
 mod condition;
 mod interval;
 pub mod laws;
+mod locking;
 mod needs;
 mod path;
 mod span;

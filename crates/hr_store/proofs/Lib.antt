@@ -1,5 +1,6 @@
-mod CellLaws
-mod EndLaws
-mod PutLaws
-mod StoreLaws
-mod ViewLaws
+pub mod CellLaws
+pub mod Walks
+pub mod EndLaws
+pub mod PutLaws
+pub mod StoreLaws
+pub mod ViewLaws

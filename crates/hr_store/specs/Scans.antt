@@ -1,6 +1,6 @@
 -- What a walk over the cells, which stand in the order of their places, finds.
-use Rattle.std.specs.Prelude.{ℕ, ℤ, ◌==◌, if◌then◌else◌, Option, Some, None, List, [], ◌∷◌, map}
-use Rattle.std.specs.List.{flat_map, range_with_len}
+use Rattle.std.specs.Prelude.{◌≡◌, ℕ, ℤ, int_lt, true, ◌==◌, if◌then◌else◌, Option, Some, None, List, [], ◌∷◌, map}
+use Rattle.std.specs.List.{list_all, flat_map, range_with_len}
 use Rattle.std.specs.Option.{option_to_list}
 use Rattle.std.specs.BTreeMap.Range.{entries_between}
 use Rattle.std.specs.declared.ops.Bound.TheVariants.{Included}
@@ -40,3 +40,8 @@ keys_seen txn cells = flat_map (key_seen txn) cells
 -- the cells of a table from one key to another
 abbrev pub cells_between : ℕ → ℤ → ℤ → List (Place × Cell) → List (Place × Cell)
 cells_between table low high cells = entries_between place_cmp (Included (place_of table low)) (Included (place_of table high)) cells
+
+-- each key is less than all behind it
+abbrev pub Rising : List ℤ → Type 0
+Rising [] = Unit {0}
+Rising (key ∷ keys) = (list_all (int_lt key) keys ≡ true) × Rising keys

@@ -1,13 +1,13 @@
 -- What stands in a store, and what each call does there.
-use Rattle.std.specs.Prelude.{ℕ, ℤ, List}
+use Rattle.std.specs.Prelude.{ℕ, ℤ, Bool, List}
 use Rattle.hr_rel.specs.declared.value.Value.{Value}
 use Rattle.hr_store.specs.declared.cell.Cell.{Cell}
 use Rattle.hr_store.specs.declared.store.Store.{Store}
 use Rattle.hr_store.specs.Places.{place_of}
 use Rattle.hr_store.specs.Cells.{empty_cell, held_at}
-use Rattle.hr_store.specs.Changes.{after_put, after_remove}
+use Rattle.hr_store.specs.Changes.{is_key_at, after_put, after_remove}
 use Rattle.hr_store.specs.Loads.{all_loaded}
-use Rattle.hr_store.specs.Scans.{all_committed, keys_seen, cells_between}
+use Rattle.hr_store.specs.Scans.{all_committed}
 
 -- what stands at a key of a table
 abbrev pub cell_at : Store → ℕ → ℤ → Cell
@@ -33,9 +33,9 @@ tables_of store = store.tables
 abbrev pub handed_of : Store → ℕ
 handed_of store = store.handed
 
--- the keys of a table from one to another at which a transaction sees a row, in order
-abbrev pub keys_found : ℕ → ℕ → ℤ → ℤ → Store → List ℤ
-keys_found txn table low high store = keys_seen txn (cells_between table low high store.cells.entries)
+-- whether a key is among these of a table
+abbrev pub is_key_in : ℕ → List ℤ → ℤ → Bool
+is_key_in table keys key = is_key_at table keys (place_of table key)
 
 -- the committed rows of each table, in the order of keys
 abbrev pub dumped : Store → List (List (List Value))

@@ -1,6 +1,6 @@
 //! Cells by their places.
 ghost use Rattle.std.specs.Prelude.{◌≡◌, if◌then◌else◌, IsSome, OnOk};
-ghost use Rattle.std.specs.BTreeMap.{get, is_at};
+ghost use Rattle.std.specs.BTreeMap.{get, is_at, IsOrdered};
 ghost use Rattle.hr_store.specs.Places.{place_cmp};
 ghost use Rattle.hr_store.specs.Cells.{is_empty, with_pending, ended, held_at};
 
@@ -17,16 +17,19 @@ pub type Cells = BTreeMap<Place, Cell>;
 /// A place without a cell gets an empty one, so that a row can be put there without memory. An error is want of memory.
 pub fn make_room(cells: &mut Cells, place: Place) -> Result<(), AllocError>
     ensures there { OnOk result (IsSome (get place_cmp cells.new place)) }
+    ensures sorted { IsOrdered place_cmp cells.new }
     ensures stays { (q : _) → IsSome (get place_cmp cells.old q) → IsSome (get place_cmp cells.new q) }
     ensures same { (q : _) → held_at cells.new q ≡ held_at cells.old q }
 {
-    if !cells.contains_key(&place) {
-        let empty = Cell {
-            committed: None,
-            pending: None,
-        };
-        cells.insert(place, empty)?;
+    if cells.contains_key(&place) {
+        are_in_order(cells);
+        return Ok(());
     }
+    let empty = Cell {
+        committed: None,
+        pending: None,
+    };
+    cells.insert(place, empty)?;
     Ok(())
 }
 
@@ -73,4 +76,11 @@ fn is_empty_at(cells: &Cells, place: Place) -> bool
         Some(cell) => cell.is_empty(),
         None => true,
     }
+}
+
+/// The places of the cells ascend, as the keys of every map do.
+pub fn are_in_order(cells: &Cells)
+    ensures { IsOrdered place_cmp cells.now }
+{
+    let _count = cells.len();
 }

@@ -1,8 +1,11 @@
 //! The store.
+ghost use Rattle.std.specs.BTreeMap.{IsOrdered};
+ghost use Rattle.std.proofs.Props.{props};
+ghost use Rattle.hr_store.specs.Places.{place_cmp};
 ghost use Rattle.hr_store.specs.Cells.{IsListed};
 
 use crate::cell::TxnId;
-use crate::cells::Cells;
+use crate::cells::{Cells, are_in_order};
 use crate::changes::{end_all, prepare_keys, prepare_rows, write_keys, write_rows};
 use crate::ending::Ending;
 use crate::load::load_tables;
@@ -24,17 +27,19 @@ pub struct Store {
     written: Written,
     handed: u64,
     ghost listed: { IsListed cells written },
+    ghost sorted: { IsOrdered place_cmp cells } by { Prim.hlevel props },
 }
 
 impl Store {
-    ghost use Rattle.std.specs.Prelude.{◌≡◌, ◌<◌, ◌+◌, ℕ, ℤ, true, int_le, length, IsSome, IfOk, OnOk, OnErr};
+    ghost use Rattle.std.specs.Prelude.{◌≡◌, ◌<◌, ◌+◌, ◌&&◌, ℕ, ℤ, true, int_le, is_some, length, IsSome, IfOk, OnOk, OnErr};
     ghost use Rattle.std.specs.Ordering.{nat_cmp};
     ghost use Rattle.std.specs.BTreeMap.{get, btree_map_len};
     ghost use Rattle.std.specs.Option.{option_map};
     ghost use Rattle.hr_store.specs.declared.ending.Ending.TheVariants.{Commit, Rollback};
     ghost use Rattle.hr_base.specs.Counters.{shown};
     ghost use Rattle.hr_store.specs.Cells.{seen_in, ended, forgotten};
-    ghost use Rattle.hr_store.specs.Store.{cell_at, tables_of, handed_of, start_cell, put_cell, remove_cell, keys_found, dumped};
+    ghost use Rattle.hr_store.specs.Scans.{Rising};
+    ghost use Rattle.hr_store.specs.Store.{cell_at, tables_of, handed_of, start_cell, put_cell, remove_cell, is_key_in, dumped};
 
     /// A store of these rows, all of them committed. An error is want of memory.
     pub fn new(alloc: Global, rows: &Rows) -> Result<Store, AllocError>
@@ -44,6 +49,7 @@ impl Store {
     {
         let mut cells = BTreeMap::new(alloc);
         let tables = load_tables(alloc, &mut cells, rows.as_slice())?;
+        are_in_order(&cells);
         Ok(Store {
             tables,
             cells,
@@ -74,7 +80,8 @@ impl Store {
         high: i64,
     ) -> Result<Vec<i64>, AllocError>
         requires { int_le low high ≡ true }
-        ensures keys { IfOk result (λ keys. keys.items ≡ keys_found txn table low high self.old) }
+        ensures keys { IfOk result (λ keys. (k : ℤ) → is_key_in table keys.items k ≡ (int_le low k && int_le k high && is_some (seen_in txn (cell_at self.old table k)))) }
+        ensures rising { IfOk result (λ keys. Rising keys.items) }
         ensures handed { IfOk result (λ keys. handed_of self.new ≡ shown (handed_of self.old + length keys.items)) }
         ensures cells { (t : ℕ) (k : ℤ) → cell_at self.new t k ≡ cell_at self.old t k }
         ensures tables { tables_of self.new ≡ tables_of self.old }
@@ -118,6 +125,28 @@ impl Store {
         ensures handed { handed_of self.new ≡ handed_of self.old }
     {
         prepare_rows(alloc, &mut self.cells, &mut self.written, txn, table, &rows)?;
+        write_rows(&mut self.cells, txn, table, rows);
+        Ok(())
+    }
+
+    /// Removes the rows at these keys of a table, and puts rows into it, for one transaction alone until it commits. An error is
+    /// want of memory, and then nothing has changed.
+    pub fn change(
+        &mut self,
+        alloc: Global,
+        txn: TxnId,
+        table: u32,
+        rows: Vec<Row>,
+        gone: &[i64],
+    ) -> Result<(), AllocError>
+        ensures changed { OnOk result ((t : ℕ) (k : ℤ) → cell_at self.new t k ≡ put_cell txn table rows.items t k (remove_cell txn table gone.now t k (cell_at self.old t k))) }
+        ensures err { OnErr result ((t : ℕ) (k : ℤ) → cell_at self.new t k ≡ cell_at self.old t k) }
+        ensures tables { tables_of self.new ≡ tables_of self.old }
+        ensures handed { handed_of self.new ≡ handed_of self.old }
+    {
+        prepare_rows(alloc, &mut self.cells, &mut self.written, txn, table, &rows)?;
+        prepare_keys(alloc, &mut self.cells, &mut self.written, txn, table, gone)?;
+        write_keys(&mut self.cells, txn, table, gone);
         write_rows(&mut self.cells, txn, table, rows);
         Ok(())
     }

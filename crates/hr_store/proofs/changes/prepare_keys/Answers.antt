@@ -13,6 +13,7 @@ keys-preserved c =
           (λ before. let r = c.keys.invariant.ready q before in (made.rooms q r.0, made.lists c.args.txn q r.1))
           (λ next. subst (λ p. IsReady c.prepare.new.cells c.prepare.new.written c.args.txn p) (at ∙ next) made.ready)
           (keys_more c.args.table c.args.keys.now c.keys.key-index q (search rules) h);
+      rooms = λ q there. made.rooms q (c.keys.invariant.rooms q there);
       lists = λ u q h. made.lists u q (c.keys.invariant.lists u q h);
       same = λ q. made.same q ∙ c.keys.invariant.same q;
     }

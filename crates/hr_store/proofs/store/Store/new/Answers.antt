@@ -9,6 +9,7 @@ use Rattle.hr_store.proofs.store.Store.new.Goals as goal
 
 pub invariant_of-result : goal.invariant_of-result
 invariant_of-result c = record {
+  sorted = c.are_in_order.ensures;
   listed = λ u q pending.
       let nothing : (held_at c.new-cells.result q).pending ≡ None = ap (λ es. (unwrap_or (lookup (is_at (place_cmp q)) es) empty_cell).pending) c.new-cells.ensures.empty in
       let none : (held_at c.load_tables.new.cells q).pending ≡ None =

@@ -1,0 +1,6 @@
+pub mod Found
+pub mod Ends
+pub mod Runs
+pub mod Looks
+pub mod Needs
+pub mod Starts
