@@ -1,0 +1,6 @@
+//! The engines behind one type.
+#![tactic(auto)]
+
+mod engine;
+
+pub use engine::Engine;
