@@ -1,5 +1,5 @@
 -- One of two engines.
-use Rattle.std.proofs.Common.{◌≡◌, ℕ, Bool, true, List, [], ◌∷◌}
+use Rattle.std.proofs.Common.{◌≡◌, ℕ, Bool, true, List, ◌∷◌}
 use Rattle.hr_rel.specs.Database.{Database}
 use Rattle.hr_engine.specs.Journal.{Journal}
 use Rattle.hr_engine.specs.Backend.{IsLegal}

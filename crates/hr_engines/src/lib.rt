@@ -2,5 +2,7 @@
 #![tactic(auto)]
 
 mod engine;
+mod kinds;
 
 pub use engine::Engine;
+pub use kinds::{Engines, journals};
