@@ -1,0 +1,3 @@
+pub mod TurnParts
+pub mod ReplyLemmas
+pub mod SuspectLemmas

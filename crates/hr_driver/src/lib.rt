@@ -1,0 +1,13 @@
+//! The driver's calls: each makes a choice of a schedule, or a part of one, on the kept history of a shepherd, with a backend
+//! behind each replica.
+//!
+//! A replica's part is whole here. A session's part, and the schedule over all, come next.
+#![tactic(auto)]
+
+mod choice;
+mod reply;
+mod take;
+
+pub use choice::choose_replica;
+pub use reply::give_reply;
+pub use take::{suspect_all, take_job};
