@@ -1,3 +1,4 @@
 pub mod TurnParts
 pub mod ReplyLemmas
 pub mod SuspectLemmas
+pub mod SessionLemmas

@@ -6,8 +6,10 @@
 
 mod choice;
 mod reply;
+mod session;
 mod take;
 
 pub use choice::choose_replica;
 pub use reply::give_reply;
+pub use session::{block_of, call_within, waits};
 pub use take::{suspect_all, take_job};
