@@ -2,3 +2,4 @@ pub mod TurnParts
 pub mod ReplyLemmas
 pub mod SuspectLemmas
 pub mod SessionLemmas
+pub mod CallLemmas

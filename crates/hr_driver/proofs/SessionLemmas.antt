@@ -11,13 +11,13 @@ use Rattle.hr_history.specs.Replies.{reply_to, is_waiting}
 use Rattle.hr_history.specs.Rules.{due}
 use Rattle.hr_history.specs.Faithful.{Begun, is_begun, session_caller}
 use Rattle.hr_history.specs.View.{View}
-use Rattle.hr_history.specs.Processed.{txn_in}
+use Rattle.hr_history.specs.Processed.{txn_in, phase_in}
 use Rattle.hr_records.specs.Kept.{Kept}
 use Rattle.hr_records.specs.Numbers.{IsBalanced}
 use Rattle.hr_records.proofs.KeptLemmas.{kept}
 use Rattle.hr_records.proofs.Places.{numbered_born}
 use Rattle.hr_records.proofs.NumberSteps.{not_both}
-use Rattle.hr_records.proofs.ViewWords.{given_seen, statements_seen}
+use Rattle.hr_records.proofs.ViewWords.{given_seen, statements_seen, phase_seen}
 use Rattle.hr_ledger.specs.Chronicle.{Chronicle, history_in, view_in, IsFaithful}
 use Rattle.hr_schedule.specs.Sessions.{IsPending, HasPending}
 use Rattle.hr_schedule.proofs.PendingLemmas.{waits_for}
@@ -46,6 +46,9 @@ module _ (f s : ℕ) (h : History) (b : Begun f s h) (q t : ℕ) (its : session_
 module _ (c : Chronicle) (q t : ℕ) (its : session_of t (history_in c) ≡ Some q) where
   pub statements_here : (v : View) (n : ℕ) → v ≡ view_in c → n ≡ (txn_in v t).statements → n ≡ length (submits t (history_in c))
   statements_here v n seen is = is ∙ ap (λ (w : View). (txn_in w t).statements) seen ∙ statements_seen c.f t (history_in c) (numbered_born (begun (history_in c)) t q its)
+
+  pub phase_here : (v : View) (p : Phase) → v ≡ view_in c → p ≡ phase_in v t → p ≡ phase_of t (history_in c)
+  phase_here v p seen is = is ∙ ap (λ (w : View). phase_in w t) seen ∙ phase_seen c.f t (history_in c) (numbered_born (begun (history_in c)) t q its)
 
   given_here : (v : View) (n : ℕ) → v ≡ view_in c → n ≡ length (txn_in v t).given → n ≡ length (given_to t (history_in c))
   given_here v n seen is =

@@ -31,7 +31,7 @@ not_call : (e : Event) (o : Option Event) → is_due e o ≡ true → is_call e 
 not_call e None h = cc
 not_call e (Some next) h = same_follows next e h
 
-follow_ups : (f caller : ℕ) (more : List Entry) (h : History) → FollowFrom f caller more h → AreFollowUps more
+pub follow_ups : (f caller : ℕ) (more : List Entry) (h : History) → FollowFrom f caller more h → AreFollowUps more
 follow_ups f caller [] h follow = tt
 follow_ups f caller (e ∷ more) h follow = (not_call e.event (due f (more ++ h)) follow.0, follow_ups f caller more h follow.2)
 

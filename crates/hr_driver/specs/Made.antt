@@ -1,5 +1,8 @@
 -- What a driver's calls make of the kept history, and of what stands behind its replicas.
-use Rattle.std.specs.Prelude.{◌≡◌, ℕ}
+use Rattle.std.specs.Prelude.{◌≡◌, ◌≤◌, ℕ, ◌+◌, Bool, ◌&&◌, nat_le, if◌then◌else◌, Option, is_some, length}
+use Rattle.hr_base.specs.Lists.{numbered, when}
+use Rattle.hr_schedule.specs.declared.attempt.Try.{Try}
+use Rattle.hr_schedule.specs.Scripts.{script}
 use Rattle.hr_rel.specs.Database.{Database}
 use Rattle.hr_engine.specs.Backend.{Standing}
 use Rattle.hr_history.specs.declared.entry.Event.{Event}
@@ -40,3 +43,21 @@ pub record HasSuspected (sc : Scenario) (before now : Chronicle) : Type 0 where
 -- nor has that of any but r
 abbrev pub AreSameOthers : ℕ → Chronicle → Chronicle → Type 0
 AreSameOthers r before after = (q : ℕ) → (q ≡ r → ⊥) → journal_of q (history_in after) ≡ journal_of q (history_in before)
+
+-- The history is one of the scenario's size, and this is one of its sessions.
+pub record IsSessionOf (sc : Scenario) (s : ℕ) (c : Chronicle) : Type 0 where
+  pub f : c.f ≡ sc.f
+  pub sessions : c.sessions ≡ length sc.scripts
+  pub first : 1 ≤ s
+  pub last : s ≤ length sc.scripts
+
+-- the try, where the session's script has its block
+abbrev pub there : Scenario → ℕ → Try → Option Try
+there sc s try = when (is_some (numbered (script sc s) try.block)) try
+
+-- the try behind a last one, which was refused or not, without its transaction
+abbrev pub try_behind : ℕ → Try → Bool → Try
+try_behind retries last refused =
+    if refused && nat_le last.number retries
+    then record { block = last.block; number = last.number + 1; txn = 0 }
+    else record { block = last.block + 1; number = 1; txn = 0 }

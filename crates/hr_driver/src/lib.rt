@@ -6,10 +6,11 @@
 
 mod choice;
 mod reply;
+mod script;
 mod session;
 mod take;
 
 pub use choice::choose_replica;
 pub use reply::give_reply;
-pub use session::{block_of, call_within, waits};
+pub use script::make_call;
 pub use take::{suspect_all, take_job};

@@ -88,12 +88,7 @@ fn submit(
     }
 }
 
-fn end(
-    shepherd: &mut Shepherd,
-    commits: bool,
-    session: u32,
-    txn: TxnId,
-) -> Result<(), AllocError>
+fn end(shepherd: &mut Shepherd, commits: bool, session: u32, txn: TxnId) -> Result<(), AllocError>
     ensures ok { OnOk result (Made (Acts shepherd.old.f (session_caller shepherd.old.f session) (Some (end_call commits txn))) shepherd.old shepherd.new) }
     ensures err { OnErr result (shepherd.new ≡ shepherd.old) }
 {
