@@ -1,8 +1,8 @@
 -- The next call of a script is a Begin where the last try has ended; and what a session's turn makes of its tries.
-use Rattle.std.proofs.Common.{◌≡◌, inl, inr, ℕ, ◌+◌, ◌==◌, Bool, true, false, cond, ◌&&◌, nat_le, Option, Some, None, List, [], ◌∷◌, ◌++◌, length, refl, ap, ◌∙◌, sym, subst}
-use Rattle.std.specs.Prelude.{is_none, is_some, IfSome, slice_get, Result, Ok, Err, OnOk, OnErr}
-use Rattle.std.proofs.lemmas.Bool.{and_parts, eq-eqb, false_from_ne_true}
-use Rattle.hr_base.specs.Lists.{last_of, numbered, when}
+use Rattle.std.proofs.Common.{◌≡◌, ℕ, ◌+◌, Bool, true, false, cond, ◌&&◌, nat_le, Option, Some, None, List, [], ◌∷◌, ◌++◌, refl, ap, ◌∙◌, sym, subst}
+use Rattle.std.specs.Prelude.{is_none, IfSome, slice_get, Result, Ok, Err, OnOk, OnErr}
+use Rattle.std.proofs.lemmas.Bool.{and_parts, false_from_ne_true}
+use Rattle.hr_base.specs.Lists.{last_of, when}
 use Rattle.hr_rel.specs.declared.stmt.Stmt.{Stmt}
 use Rattle.hr_said.specs.declared.scenario.Scenario.{Scenario}
 use Rattle.hr_said.specs.declared.scenario.Block.{Block}
@@ -12,7 +12,7 @@ use Rattle.hr_history.specs.declared.entry.Event.TheVariants as event
 use Rattle.hr_history.specs.declared.phase.Phase.{Phase}
 use Rattle.hr_history.specs.declared.phase.Phase.TheVariants as phase
 use Rattle.hr_history.specs.History.{History, is_call}
-use Rattle.hr_history.specs.Transactions.{begun, session_of, submits, phase_of, is_open}
+use Rattle.hr_history.specs.Transactions.{session_of, phase_of, is_open}
 use Rattle.hr_history.specs.Replies.{reply_to, is_waiting}
 use Rattle.hr_history.specs.Rules.{due}
 use Rattle.hr_history.specs.Faithful.{Begun, is_begun, session_caller}
@@ -25,12 +25,12 @@ use Rattle.hr_ledger.specs.Chronicle.{Chronicle, history_in, IsFaithful}
 use Rattle.hr_core.specs.Turns.{HasTurn}
 use Rattle.hr_schedule.specs.declared.attempt.Try.{Try}
 use Rattle.hr_schedule.specs.Tries.{is_refused, try_after, next_tries, tries_of, last_try}
-use Rattle.hr_schedule.specs.Scripts.{script, may_submit, end_call, call_in, call_or_end, begin_next, go_on, call_after, next_call_of}
+use Rattle.hr_schedule.specs.Scripts.{may_submit, call_in, call_or_end, begin_next, go_on, call_after, next_call_of}
 use Rattle.hr_schedule.specs.Choices.{Acts, Session}
-use Rattle.hr_schedule.specs.Sessions.{IsLast, HasPending}
+use Rattle.hr_schedule.specs.Sessions.{IsLast}
 use Rattle.hr_schedule.proofs.PendingLemmas.{waits_for}
 use Rattle.hr_schedule.proofs.TryLemmas.{last_is}
-use Rattle.hr_driver.specs.Made.{Made, IsSessionOf, there}
+use Rattle.hr_driver.specs.Made.{Made, IsSessionOf}
 use Rattle.hr_driver.proofs.TurnParts.{follow_ups}
 
 module _ (c : Chronicle) (faithful : IsFaithful c) where

@@ -1,15 +1,15 @@
 -- Whether a session waits, and how many statements its transaction has, as the view shows it.
-use Rattle.std.proofs.Common.{◌≡◌, ◌⊎◌, inl, inr, ℕ, ◌+◌, ◌<◌, Bool, true, false, not, ◌&&◌, ◌||◌, nat_le, nat_lt, Option, Some, None, Result, Ok, Err, List, [], ◌∷◌, length, refl, ap, ◌∙◌, sym, subst, arith}
+use Rattle.std.proofs.Common.{◌≡◌, ◌⊎◌, inl, inr, ℕ, ◌<◌, Bool, true, false, nat_lt, Some, List, length, refl, ap, ◌∙◌, sym, subst, arith}
 use Rattle.std.specs.Prelude.{is_none}
-use Rattle.std.proofs.lemmas.Bool.{and_parts, or_parts, or_cases, and_from, and_left, and_right, lt-ltb, ltb-true, leb-true, leb-false, false_from_ne_true}
+use Rattle.std.proofs.lemmas.Bool.{and_parts, lt-ltb, ltb-true, false_from_ne_true}
 use Rattle.hr_history.specs.declared.phase.Phase.{Phase}
 use Rattle.hr_history.specs.declared.phase.Phase.TheVariants as phase
 use Rattle.hr_history.specs.History.{History}
-use Rattle.hr_history.specs.Transactions.{begun, session_of, submits, submitted, phase_of, is_open, is_asked}
+use Rattle.hr_history.specs.Transactions.{begun, session_of, submits, phase_of, is_open, is_asked}
 use Rattle.hr_history.specs.Given.{Given, given_to}
 use Rattle.hr_history.specs.Replies.{reply_to, is_waiting}
 use Rattle.hr_history.specs.Rules.{due}
-use Rattle.hr_history.specs.Faithful.{Begun, is_begun, session_caller}
+use Rattle.hr_history.specs.Faithful.{Begun, is_begun}
 use Rattle.hr_history.specs.View.{View}
 use Rattle.hr_history.specs.Processed.{txn_in, phase_in}
 use Rattle.hr_records.specs.Kept.{Kept}
@@ -19,7 +19,6 @@ use Rattle.hr_records.proofs.Places.{numbered_born}
 use Rattle.hr_records.proofs.NumberSteps.{not_both}
 use Rattle.hr_records.proofs.ViewWords.{given_seen, statements_seen, phase_seen}
 use Rattle.hr_ledger.specs.Chronicle.{Chronicle, history_in, view_in, IsFaithful}
-use Rattle.hr_schedule.specs.Sessions.{IsPending, HasPending}
 use Rattle.hr_schedule.proofs.PendingLemmas.{waits_for}
 
 -- ---- who waits

@@ -15,6 +15,7 @@ use Rattle.hr_shepherd.specs.Taken.{IsTaken}
 use Rattle.hr_said.specs.declared.scenario.Scenario.{Scenario}
 use Rattle.hr_schedule.specs.Choices.{AllSuspects, is_suspect_due, is_reached}
 use Rattle.hr_driver.specs.Made.{Made, AreSameJournals, HasSuspected}
+use Rattle.hr_driver.proofs.CallLemmas.{tries_over}
 use Rattle.hr_driver.proofs.TurnParts.{grown, suspects_over}
 
 pub taken_same : (caller r : ℕ) (taken : Option Job) (c d : Chronicle) → IsTaken caller r taken c d → AreSameJournals c d
@@ -22,7 +23,7 @@ taken_same caller r None c d same = λ q. ap (λ (s : Chronicle). journal_of q (
 taken_same caller r (Some j) c d turn = λ q. grown c d caller (event.Take r j) turn q
 
 pub none_yet : (sc : Scenario) (c : Chronicle) → HasSuspected sc c c
-none_yet sc c = record { size = record { f = refl; sessions = refl }; times = (0, refl); journals = λ q. refl }
+none_yet sc c = record { size = record { f = refl; sessions = refl }; times = (0, refl); journals = λ q. refl; tries = λ r q. refl }
 
 within : (xs : List ℕ) (n commits : ℕ) → is_reached (slice_get xs n) commits ≡ true → n < length xs
 within xs n commits due = by_threshold (slice_get xs n) refl due
@@ -37,6 +38,7 @@ module _ (sc : Scenario) (a c d : Chronicle) (same : a.f ≡ sc.f) (so_far : Has
     size = record { f = turn.size.f ∙ so_far.size.f; sessions = turn.size.sessions ∙ so_far.size.sessions };
     times = (suc so_far.times.0, (history_in c, so_far.times.1, (due, subst (λ n. IsTurn n 0 event.Suspect (history_in c) (history_in d)) (so_far.size.f ∙ same) turn.turn)));
     journals = λ q. grown c d 0 event.Suspect turn q ∙ so_far.journals q;
+    tries = λ r q. tries_over c.f 0 event.Suspect (history_in c) (history_in d) turn.turn r q ∙ so_far.tries r q;
   }
 
   pub falls : length sc.suspects - suspects (history_in d) < length sc.suspects - suspects (history_in c)

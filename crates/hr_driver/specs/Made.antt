@@ -2,6 +2,7 @@
 use Rattle.std.specs.Prelude.{◌≡◌, ◌≤◌, ℕ, ◌+◌, Bool, ◌&&◌, nat_le, if◌then◌else◌, Option, is_some, length}
 use Rattle.hr_base.specs.Lists.{numbered, when}
 use Rattle.hr_schedule.specs.declared.attempt.Try.{Try}
+use Rattle.hr_schedule.specs.Tries.{tries_of}
 use Rattle.hr_schedule.specs.Scripts.{script}
 use Rattle.hr_rel.specs.Database.{Database}
 use Rattle.hr_engine.specs.Backend.{Standing}
@@ -34,11 +35,16 @@ pub record Replied (was stands : Standing) (r : ℕ) (before after : Chronicle) 
 abbrev pub AreSameJournals : Chronicle → Chronicle → Type 0
 AreSameJournals before after = (q : ℕ) → journal_of q (history_in after) ≡ journal_of q (history_in before)
 
+-- no session's tries have changed
+abbrev pub AreSameTries : Chronicle → Chronicle → Type 0
+AreSameTries before after = (r q : ℕ) → tries_of r q (history_in after) ≡ tries_of r q (history_in before)
+
 -- Of the suspicions that are due some have come.
 pub record HasSuspected (sc : Scenario) (before now : Chronicle) : Type 0 where
   pub size : IsSameSize before now
   pub times : (k : ℕ) × Times (Suspects sc) k (history_in before) (history_in now)
   pub journals : AreSameJournals before now
+  pub tries : AreSameTries before now
 
 -- nor has that of any but r
 abbrev pub AreSameOthers : ℕ → Chronicle → Chronicle → Type 0

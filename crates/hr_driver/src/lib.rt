@@ -1,7 +1,7 @@
 //! The driver's calls: each makes a choice of a schedule, or a part of one, on the kept history of a shepherd, with a backend
 //! behind each replica.
 //!
-//! A replica's part is whole here. A session's part, and the schedule over all, come next.
+//! A choice of one session and of one replica is whole here. The schedule over all comes next.
 #![tactic(auto)]
 
 mod choice;
@@ -10,7 +10,7 @@ mod script;
 mod session;
 mod take;
 
-pub use choice::choose_replica;
+pub use choice::{choose_replica, choose_session};
 pub use reply::give_reply;
 pub use script::make_call;
 pub use take::{suspect_all, take_job};

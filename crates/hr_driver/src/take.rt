@@ -7,7 +7,7 @@ ghost use Rattle.hr_ledger.specs.Chronicle.{history_in};
 ghost use Rattle.hr_core.specs.Suspects as suspicions;
 ghost use Rattle.hr_core.specs.Turns.{HasTurn, IsSameSize};
 ghost use Rattle.hr_schedule.specs.Choices.{TakeJob, AllSuspects, is_reached};
-ghost use Rattle.hr_driver.specs.Made.{Made, AreSameJournals};
+ghost use Rattle.hr_driver.specs.Made.{Made, AreSameJournals, AreSameTries};
 
 use hr_said::Scenario;
 use hr_shepherd::Shepherd;
@@ -33,6 +33,7 @@ pub fn suspect_all(scenario: &Scenario, shepherd: &mut Shepherd) -> Result<(), A
     ensures ok { OnOk result (Made (AllSuspects scenario.now) shepherd.old shepherd.new) }
     ensures size { IsSameSize shepherd.old shepherd.new }
     ensures journals { AreSameJournals shepherd.old shepherd.new }
+    ensures tries { AreSameTries shepherd.old shepherd.new }
 {
     'due: while is_suspect_due(scenario.suspects.as_slice(), shepherd) {
         suspect(shepherd)?;

@@ -1,4 +1,4 @@
-use Rattle.std.proofs.Common.{Some, sym, ◌∙◌, subst}
+use Rattle.std.proofs.Common.{sym, ◌∙◌, subst}
 use Rattle.hr_history.specs.declared.entry.Event.TheVariants as event
 use Rattle.hr_core.specs.Turns.{HasTurn}
 use Rattle.hr_driver.proofs.CallLemmas.{if_its, idle_choice, made_call, when_there, when_not, last_begun}

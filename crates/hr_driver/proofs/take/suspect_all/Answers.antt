@@ -1,6 +1,7 @@
 use Rattle.std.proofs.Common.{ap, ◌∙◌}
 use Rattle.hr_history.specs.Replicas.{journal_of}
 use Rattle.hr_ledger.specs.Chronicle.{Chronicle, history_in}
+use Rattle.hr_schedule.specs.Tries.{tries_of}
 use Rattle.hr_driver.proofs.SuspectLemmas.{none_yet, one_more, falls, all_came, is_due}
 use Rattle.hr_driver.proofs.take.suspect_all.Goals as goal
 
@@ -27,3 +28,9 @@ returns-clause-ok c =
 
 pub returns-clause-journals : goal.returns-clause-journals
 returns-clause-journals c = c.due.invariant.journals
+
+pub returns-in_err-suspect-clause-tries : goal.returns-in_err-suspect-clause-tries
+returns-in_err-suspect-clause-tries c = λ r q. ap (λ (s : Chronicle). tries_of r q (history_in s)) c.in_err-suspect.ensures.err ∙ c.due.invariant.tries r q
+
+pub returns-clause-tries : goal.returns-clause-tries
+returns-clause-tries c = c.due.invariant.tries
