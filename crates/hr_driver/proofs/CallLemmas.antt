@@ -13,16 +13,17 @@ use Rattle.hr_history.specs.declared.phase.Phase.{Phase}
 use Rattle.hr_history.specs.declared.phase.Phase.TheVariants as phase
 use Rattle.hr_history.specs.History.{History, is_call}
 use Rattle.hr_history.specs.Transactions.{session_of, phase_of, is_open}
+use Rattle.hr_history.specs.Replicas.{journal_of}
 use Rattle.hr_history.specs.Replies.{reply_to, is_waiting}
 use Rattle.hr_history.specs.Rules.{due}
 use Rattle.hr_history.specs.Faithful.{Begun, is_begun, session_caller}
 use Rattle.hr_calls.specs.Callers.{AreFollowUps}
 use Rattle.hr_records.proofs.Options.{same_some, some_none}
-use Rattle.hr_records.proofs.Places.{if_same}
+use Rattle.hr_records.proofs.Places.{if_same, if_other}
 use Rattle.hr_records.proofs.NumberSteps.{not_both}
 use Rattle.hr_moves.specs.Callers.{IsTurn}
 use Rattle.hr_ledger.specs.Chronicle.{Chronicle, history_in, IsFaithful}
-use Rattle.hr_core.specs.Turns.{HasTurn}
+use Rattle.hr_core.specs.Turns.{HasTurn, IsSameSize}
 use Rattle.hr_schedule.specs.declared.attempt.Try.{Try}
 use Rattle.hr_schedule.specs.Tries.{is_refused, try_after, next_tries, tries_of, last_try}
 use Rattle.hr_schedule.specs.Scripts.{may_submit, call_in, call_or_end, begin_next, go_on, call_after, next_call_of}
@@ -30,8 +31,8 @@ use Rattle.hr_schedule.specs.Choices.{Acts, Session}
 use Rattle.hr_schedule.specs.Sessions.{IsLast}
 use Rattle.hr_schedule.proofs.PendingLemmas.{waits_for}
 use Rattle.hr_schedule.proofs.TryLemmas.{last_is}
-use Rattle.hr_driver.specs.Made.{Made, IsSessionOf}
-use Rattle.hr_driver.proofs.TurnParts.{follow_ups}
+use Rattle.hr_driver.specs.Made.{Made, IsSessionOf, AreSameJournals, AreSameTriesBut}
+use Rattle.hr_driver.proofs.TurnParts.{follow_ups, grown}
 
 module _ (c : Chronicle) (faithful : IsFaithful c) where
   begun_here : Begun c.f c.sessions (history_in c)
@@ -178,3 +179,33 @@ last_left r q f caller t n block c d acted o e = e ∙ sym (ap last_of (acts_lea
 pub either_way : {T E X P Q : Type 0} (result : Result T E) → OnOk result P → OnErr result Q → (P → X) → (Q → X) → X
 either_way (Ok x) p q f g = f p
 either_way (Err e) p q f g = g q
+
+-- ---- what a session's call leaves as it was
+
+pub same_journals : (c d : Chronicle) → d ≡ c → AreSameJournals c d
+same_journals c d same = λ q. ap (λ (s : Chronicle). journal_of q (history_in s)) same
+
+pub same_others : (s : ℕ) (c d : Chronicle) → d ≡ c → AreSameTriesBut s c d
+same_others s c d same = λ r q other. ap (λ (x : Chronicle). tries_of r q (history_in x)) same
+
+pub begun_journals : (s txn caller : ℕ) (c d : Chronicle) → HasTurn caller (event.Begin s txn) c d → AreSameJournals c d
+begun_journals s txn caller c d turn = λ q. grown c d caller (event.Begin s txn) turn q
+
+pub begun_others : (s txn caller : ℕ) (c d : Chronicle) → HasTurn caller (event.Begin s txn) c d → AreSameTriesBut s c d
+begun_others s txn caller c d turn = λ r q other.
+    tries_over c.f caller (event.Begin s txn) (history_in c) (history_in d) turn.turn r q ∙ if_other s q _ (tries_of r q (history_in c)) (λ e. other (sym e))
+
+acts_journals : (caller : ℕ) (stmt : Option Stmt) (commits : Bool) (t n : ℕ) (c d : Chronicle) → IsSameSize c d → Acts c.f caller (call_or_end stmt commits t n (history_in c)) (history_in c) (history_in d) → AreSameJournals c d
+acts_journals caller None true t n c d size turn = λ q. grown c d caller (event.AskCommit t) record { size = size; turn = turn } q
+acts_journals caller None false t n c d size turn = λ q. grown c d caller (event.AskRollback t) record { size = size; turn = turn } q
+acts_journals caller (Some stmt) commits t n c d size acts = by_limit (may_submit n (history_in c)) acts
+  where
+    by_limit : (b : Bool) → Acts c.f caller (when b (event.Submit t (n + 1) stmt)) (history_in c) (history_in d) → AreSameJournals c d
+    by_limit true turn = λ q. grown c d caller (event.Submit t (n + 1) stmt) record { size = size; turn = turn } q
+    by_limit false same = λ q. ap (journal_of q) same
+
+pub within_journals : (caller t n : ℕ) (block : Block) (c d : Chronicle) → Made (Acts c.f caller (call_in t n (history_in c) block)) c d → AreSameJournals c d
+within_journals caller t n block c d acted = acts_journals caller (slice_get block.stmts n) block.commits t n c d acted.size acted.made
+
+pub within_others : (s f caller t n : ℕ) (block : Block) (c d : Chronicle) → Made (Acts f caller (call_in t n (history_in c) block)) c d → AreSameTriesBut s c d
+within_others s f caller t n block c d acted = λ r q other. acts_leave r q f caller (slice_get block.stmts n) block.commits t n (history_in c) (history_in d) acted.made

@@ -67,3 +67,7 @@ try_behind retries last refused =
     if refused && nat_le last.number retries
     then record { block = last.block; number = last.number + 1; txn = 0 }
     else record { block = last.block + 1; number = 1; txn = 0 }
+
+-- no tries but those of session s have changed
+abbrev pub AreSameTriesBut : ℕ → Chronicle → Chronicle → Type 0
+AreSameTriesBut s before after = (r q : ℕ) → (q ≡ s → ⊥) → tries_of r q (history_in after) ≡ tries_of r q (history_in before)

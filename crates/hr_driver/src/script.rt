@@ -9,7 +9,7 @@ ghost use Rattle.hr_schedule.specs.Tries as tries;
 ghost use Rattle.hr_schedule.specs.Tries.{last_try, try_after};
 ghost use Rattle.hr_schedule.specs.Scripts.{script, begin_next, next_call_of};
 ghost use Rattle.hr_schedule.specs.Choices.{Session};
-ghost use Rattle.hr_driver.specs.Made.{Made, IsSessionOf, there, try_behind};
+ghost use Rattle.hr_driver.specs.Made.{Made, AreSameJournals, AreSameTriesBut, IsSessionOf, there, try_behind};
 
 use crate::session::{block_of, call_within, caller_of, waits};
 use hr_engine::TxnId;
@@ -30,6 +30,8 @@ pub fn make_call(
     requires known { IsSessionOf scenario.now session shepherd.old }
     requires last { last.old ≡ last_try scenario.now.retries session (history_in shepherd.old) }
     ensures ok { OnOk result (Made (Session scenario.now session) shepherd.old shepherd.new) }
+    ensures journals { AreSameJournals shepherd.old shepherd.new }
+    ensures others { AreSameTriesBut session shepherd.old shepherd.new }
     ensures err { OnErr result (shepherd.new ≡ shepherd.old) }
     ensures last { last.new ≡ last_try scenario.now.retries session (history_in shepherd.new) }
 {
@@ -58,6 +60,8 @@ fn go_on(
     requires last { Some last ≡ last_try scenario.now.retries session (history_in shepherd.old) }
     requires active { history.phase_of last.txn (history_in shepherd.old) ≡ phase.Active }
     ensures ok { OnOk result (Made (Session scenario.now session) shepherd.old shepherd.new) }
+    ensures journals { AreSameJournals shepherd.old shepherd.new }
+    ensures others { AreSameTriesBut session shepherd.old shepherd.new }
     ensures err { OnErr result (shepherd.new ≡ shepherd.old) }
     ensures last { Some last ≡ last_try scenario.now.retries session (history_in shepherd.new) }
 {
@@ -83,6 +87,8 @@ fn begin(
     requires last { last.old ≡ last_try scenario.now.retries session (history_in shepherd.old) }
     requires next { next_call_of scenario.now session (history_in shepherd.old) ≡ begin_next scenario.now session last.old (history_in shepherd.old) }
     ensures ok { OnOk result (Made (Session scenario.now session) shepherd.old shepherd.new) }
+    ensures journals { AreSameJournals shepherd.old shepherd.new }
+    ensures others { AreSameTriesBut session shepherd.old shepherd.new }
     ensures err { OnErr result (shepherd.new ≡ shepherd.old) }
     ensures last { last.new ≡ last_try scenario.now.retries session (history_in shepherd.new) }
 {
