@@ -4,7 +4,7 @@ ghost use Rattle.hr_core.specs.Turns.{IsSameSize};
 ghost use Rattle.hr_ledger.specs.Chronicle.{history_in};
 ghost use Rattle.hr_schedule.specs.Tries.{last_try};
 ghost use Rattle.hr_schedule.specs.Choices.{OfReplica, OfSession};
-ghost use Rattle.hr_driver.specs.Made.{Made, StandsOn, AreSameOthers, IsSessionOf};
+ghost use Rattle.hr_driver.specs.Made.{Made, StandsOn, AreSameOthers, AreSameJournals, AreSameTriesBut, IsSessionOf};
 
 use crate::reply::give_reply;
 use crate::script::make_call;
@@ -38,7 +38,7 @@ pub fn choose_replica<B: Backend>(
 }
 
 /// A session makes the next call of its script, and the suspicions that are due come behind. Whether or not memory is refused
-/// on the way, `last` is its last try.
+/// on the way, `last` is its last try, the other sessions' tries stand, and no journal has changed.
 pub fn choose_session(
     alloc: Global,
     scenario: &Scenario,
@@ -49,6 +49,8 @@ pub fn choose_session(
     requires known { IsSessionOf scenario.now session shepherd.old }
     requires last { last.old ≡ last_try scenario.now.retries session (history_in shepherd.old) }
     ensures ok { OnOk result (Made (OfSession scenario.now session) shepherd.old shepherd.new) }
+    ensures journals { AreSameJournals shepherd.old shepherd.new }
+    ensures others { AreSameTriesBut session shepherd.old shepherd.new }
     ensures last { last.new ≡ last_try scenario.now.retries session (history_in shepherd.new) }
 {
     make_call(alloc, scenario, shepherd, last, session)?;
