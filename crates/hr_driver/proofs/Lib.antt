@@ -1,0 +1,5 @@
+pub mod TurnParts
+pub mod ReplyLemmas
+pub mod SuspectLemmas
+pub mod SessionLemmas
+pub mod CallLemmas

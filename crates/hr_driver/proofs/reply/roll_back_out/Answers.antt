@@ -1,0 +1,9 @@
+use Rattle.std.proofs.Common.{refl}
+use Rattle.hr_engine.specs.Journal.{RolledBack}
+use Rattle.hr_history.specs.declared.job.Job.TheVariants as job
+use Rattle.hr_history.specs.declared.job.JobReply.TheVariants as reply
+use Rattle.hr_driver.proofs.ReplyLemmas.{replied}
+use Rattle.hr_driver.proofs.reply.roll_back_out.Goals as goal
+
+pub returns-clause-replied : goal.returns-clause-replied
+returns-clause-replied g c = replied _ _ _ _ _ (reply.Ended _) (job.Rollback _) (RolledBack _ _) c.rollback-reply.ensures.journal _ c.from.ensures c.give.ensures c.requires.out refl

@@ -1,0 +1,5 @@
+use Rattle.hr_driver.proofs.SuspectLemmas.{taken_same}
+use Rattle.hr_driver.proofs.take.take_job.Goals as goal
+
+pub returns-in-Ok-clause-journals : goal.returns-in-Ok-clause-journals
+returns-in-Ok-clause-journals c = taken_same _ _ _ _ _ (c.in-Ok.ensures.ok)

@@ -1,0 +1,4 @@
+pub mod ClaimLemmas
+pub mod PendingLemmas
+pub mod TryLemmas
+pub mod NextLemmas

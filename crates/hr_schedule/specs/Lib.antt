@@ -1,0 +1,5 @@
+pub mod Tries
+pub mod Scripts
+pub mod Sessions
+pub mod Choices
+pub mod Claims
