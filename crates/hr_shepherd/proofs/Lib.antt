@@ -1,3 +1,5 @@
 pub mod Allowed
 pub mod Owners
 pub mod Lent
+pub mod Growing
+pub mod Promised

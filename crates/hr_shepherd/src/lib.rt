@@ -4,8 +4,10 @@
 #![tactic(auto)]
 
 mod gate;
+mod order;
 mod refusal;
 mod shepherd;
 
+pub use order::Order;
 pub use refusal::Refusal;
 pub use shepherd::Shepherd;

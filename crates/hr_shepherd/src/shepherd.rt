@@ -5,12 +5,14 @@ ghost use Rattle.hr_history.specs.Transactions as transactions;
 ghost use Rattle.hr_history.specs.declared.entry.Event.TheVariants as event;
 ghost use Rattle.hr_rel.specs.Database.{Database};
 ghost use Rattle.hr_history.specs.Words.{IsDecidable, IsContradicted};
+ghost use Rattle.hr_moves.specs.Callers.{Grows};
 ghost use Rattle.hr_serial.specs.Prefix.{IsAtPrefix};
 ghost use Rattle.hr_serial.specs.Serial.{LiarsAreAtMost, AtEachDecide, AreSerial};
 ghost use Rattle.hr_ledger.specs.Chronicle.{history_in, view_in, IsFaithful};
 ghost use Rattle.hr_core.specs.Suspects as suspicions;
 ghost use Rattle.hr_core.specs.Turns.{HasTurn};
 ghost use Rattle.hr_shepherd.specs.Refused.{IsRefusedFor};
+ghost use Rattle.hr_shepherd.specs.Promises.{KeepsBarrier, ConvictsLiars, ShowsCauses, IsComplete};
 
 mod replicas;
 mod sessions;
@@ -63,9 +65,24 @@ impl Shepherd {
         ensures refused { IsRefusedFor None result }
         ensures ok { OnOk result (HasTurn caller event.Suspect self.old self.new) }
         ensures err { OnErr result (self.new ≡ self.old) }
+        ensures grows { Grows caller self.old.entries self.new.entries }
     {
         self.core.suspect(caller)?;
         Ok(())
+    }
+
+    /// How many of its replicas may lie: there are `2f + 1`.
+    pub fn f(&self) -> u32
+        ensures { result ≡ self.now.f }
+    {
+        self.core.ledger().view().f()
+    }
+
+    /// How many sessions there are. They are numbered from 1.
+    pub fn sessions(&self) -> u32
+        ensures { result ≡ self.now.sessions }
+    {
+        self.core.ledger().sessions()
     }
 
     /// How many transactions are decided.
@@ -98,7 +115,10 @@ impl Shepherd {
 
     /// The history, lent. It follows the rules. Each replica, whatever it replies, is at a prefix of the log. Where at each
     /// decision at most `f` replicas weren't correct until then, the accepted answers are those of the log's transactions run
-    /// alone, one after another. Nothing is left that may be decided, or whose given answers are contradicted.
+    /// alone, one after another. Nothing is left that may be decided, or whose given answers are contradicted. What a correct
+    /// replica answers to a statement is what the session was given, where the primaries that gave it were correct then. Who is
+    /// convicted wasn't correct. The history shows why each refused transaction was. Where a correct primary is never lost nor
+    /// suspected, it stays, and refuses at most for its own reply.
     pub fn history(&self) -> Entries<'_>
         ensures entries { result ≡ self.now.entries }
         ensures faithful { IsFaithful self.now }
@@ -106,6 +126,10 @@ impl Shepherd {
         ensures decided { (t : ℕ) → IsDecidable self.now.f (history_in self.now) t → ⊥ }
         ensures contradicted { (t : ℕ) → IsContradicted self.now.f (history_in self.now) t → ⊥ }
         ensures serial { (db : Database) → AtEachDecide (LiarsAreAtMost self.now.f self.now.f db) (history_in self.now) → AreSerial db (history_in self.now) }
+        ensures barrier { (db : Database) → KeepsBarrier db (history_in self.now) }
+        ensures not_convicted { (db : Database) → ConvictsLiars self.now.f db (history_in self.now) }
+        ensures causes { ShowsCauses (history_in self.now) }
+        ensures complete { (db : Database) → IsComplete self.now.f db (history_in self.now) }
     {
         self.core.ledger().begun();
         self.core.ledger().entries()

@@ -4,6 +4,7 @@ ghost use Rattle.hr_history.specs.Faithful.{session_caller};
 ghost use Rattle.hr_history.specs.Replies.{reply_to, ending_of};
 ghost use Rattle.hr_history.specs.Transactions as transactions;
 ghost use Rattle.hr_history.specs.declared.entry.Event.TheVariants as event;
+ghost use Rattle.hr_moves.specs.Callers.{Grows};
 ghost use Rattle.hr_ledger.specs.Chronicle.{history_in};
 ghost use Rattle.hr_core.specs.Copies.{reply_in};
 ghost use Rattle.hr_core.specs.Turns.{HasTurn};
@@ -29,6 +30,7 @@ impl Shepherd {
         ensures txn { IfOk result (λ txn. txn ≡ length (transactions.begun (history_in self.old)) + 1) }
         ensures ok { OnOk result (HasTurn caller (event.Begin session (length (transactions.begun (history_in self.old)) + 1)) self.old self.new) }
         ensures err { OnErr result (self.new ≡ self.old) }
+        ensures grows { Grows caller self.old.entries self.new.entries }
     {
         if let Some(refusal) = refused_begin(&self.core, session) {
             return Err(refusal);
@@ -45,6 +47,7 @@ impl Shepherd {
         ensures index { IfOk result (λ index. index ≡ length (transactions.submits txn (history_in self.old)) + 1) }
         ensures ok { OnOk result (HasTurn caller (event.Submit txn (length (transactions.submits txn (history_in self.old)) + 1) stmt) self.old self.new) }
         ensures err { OnErr result (self.new ≡ self.old) }
+        ensures grows { Grows caller self.old.entries self.new.entries }
     {
         if let Some(refusal) = refused_submit(&self.core, caller, txn) {
             return Err(refusal);
@@ -59,6 +62,7 @@ impl Shepherd {
         ensures refused { IsRefusedFor (told.refused self.old caller txn) result }
         ensures ok { OnOk result (HasTurn caller (event.AskCommit txn) self.old self.new) }
         ensures err { OnErr result (self.new ≡ self.old) }
+        ensures grows { Grows caller self.old.entries self.new.entries }
     {
         if let Some(refusal) = refused(&self.core, caller, txn) {
             return Err(refusal);
@@ -73,6 +77,7 @@ impl Shepherd {
         ensures refused { IsRefusedFor (told.refused self.old caller txn) result }
         ensures ok { OnOk result (HasTurn caller (event.AskRollback txn) self.old self.new) }
         ensures err { OnErr result (self.new ≡ self.old) }
+        ensures grows { Grows caller self.old.entries self.new.entries }
     {
         if let Some(refusal) = refused(&self.core, caller, txn) {
             return Err(refusal);

@@ -1,5 +1,7 @@
 use Rattle.std.proofs.Common.{sym, subst, ◌∙◌}
-use Rattle.hr_ledger.specs.Chronicle.{IsQuiet}
+use Rattle.hr_moves.specs.Callers.{Grows}
+use Rattle.hr_ledger.specs.Chronicle.{Chronicle, IsQuiet}
+use Rattle.hr_shepherd.proofs.Growing.{by_turn}
 use Rattle.hr_shepherd.proofs.shepherd.Shepherd.ask_commit.Goals as goal
 
 pub ask_commit-requires-clause-quiet : goal.ask_commit-requires-clause-quiet
@@ -7,3 +9,6 @@ ask_commit-requires-clause-quiet c = subst IsQuiet (sym c.deref_mut.ensures.valu
 
 pub invariant_of-self : goal.invariant_of-self
 invariant_of-self c = subst IsQuiet (sym (c.in_err-ask_commit.ensures.err ∙ c.deref_mut.ensures.value)) c.self.invariant
+
+pub returns-clause-grows : goal.returns-clause-grows
+returns-clause-grows c = subst (λ (s : Chronicle). Grows c.args.caller s.entries c.ask_commit.new.self.entries) (c.deref_mut.ensures.value ∙ c.self.view_is) (by_turn c.args.caller _ _ _ c.in_ok-ask_commit.ensures.ok)

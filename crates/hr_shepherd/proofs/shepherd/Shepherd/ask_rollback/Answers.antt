@@ -1,6 +1,11 @@
-use Rattle.std.proofs.Common.{sym, subst}
-use Rattle.hr_ledger.specs.Chronicle.{IsQuiet}
+use Rattle.std.proofs.Common.{sym, subst, ◌∙◌}
+use Rattle.hr_moves.specs.Callers.{Grows}
+use Rattle.hr_ledger.specs.Chronicle.{Chronicle, IsQuiet}
+use Rattle.hr_shepherd.proofs.Growing.{by_turn}
 use Rattle.hr_shepherd.proofs.shepherd.Shepherd.ask_rollback.Goals as goal
 
 pub ask_rollback-requires-clause-quiet : goal.ask_rollback-requires-clause-quiet
 ask_rollback-requires-clause-quiet c = subst IsQuiet (sym c.deref_mut.ensures.value) c.self.invariant
+
+pub returns-clause-grows : goal.returns-clause-grows
+returns-clause-grows c = subst (λ (s : Chronicle). Grows c.args.caller s.entries c.ask_rollback.new.self.entries) (c.deref_mut.ensures.value ∙ c.self.view_is) (by_turn c.args.caller _ _ _ c.ask_rollback.ensures)
