@@ -19,16 +19,16 @@ use Rattle.hr_history.specs.Replies.{ending_of}
 use Rattle.hr_history.specs.Processed.{given_in, replica_in, is_primary}
 use Rattle.hr_ledger.specs.Chronicle.{Chronicle, history_in, view_in}
 use Rattle.hr_answer_text.specs.Answers.{answer_text, row_text}
-use Rattle.hr_run_report.specs.declared.tried.Tried.{Tried}
+use Rattle.hr_schedule.specs.declared.attempt.Try.{Try}
 use Rattle.hr_run_report.specs.Endings.{ending_text}
 use Rattle.hr_run_report.specs.Convictions.{convictions_text, preempted}
 
 -- the number of the block that a transaction was a try of, among the tries of its session
-abbrev pub block_of : ℕ → List Tried → ℕ
-block_of txn tries = unwrap_or (option_map (λ (x : Tried). x.block) (find (λ (x : Tried). x.txn == txn) tries)) 0
+abbrev pub block_of : ℕ → List Try → ℕ
+block_of txn tries = unwrap_or (option_map (λ (x : Try). x.block) (find (λ (x : Try). x.txn == txn) tries)) 0
 
 -- the tries of the session with this number, from 1
-abbrev pub own_tries : List (List Tried) → ℕ → List Tried
+abbrev pub own_tries : List (List Try) → ℕ → List Try
 own_tries tries session = unwrap_or (numbered tries session) []
 
 -- the answer of a transaction's statement with this number
@@ -59,17 +59,17 @@ abbrev pub session_in : Chronicle → ℕ → ℕ
 session_in c txn = unwrap_or (session_of txn (history_in c)) 0
 
 -- a committed transaction, at its place in the log, with its accepted answers
-abbrev pub commit_text : Chronicle → List (List Tried) → ℕ → ℕ → Text
+abbrev pub commit_text : Chronicle → List (List Try) → ℕ → ℕ → Text
 commit_text c tries place txn =
     commit_line place (session_in c txn) (block_of txn (own_tries tries (session_in c txn))) txn ++ each_from numbered_answer 1 (given_in (view_in c) txn)
 
 -- a try of a block, and how it ended
-abbrev pub try_text : Chronicle → Tried → Text
+abbrev pub try_text : Chronicle → Try → Text
 try_text c tried =
     codes "block " ++ decimal tried.block ++ codes " try " ++ decimal tried.number ++ codes " txn " ++ decimal tried.txn ++ codes " "
     ++ ending_text (ending_of tried.txn (history_in c))
 
-abbrev pub session_text : Chronicle → ℕ → List Tried → Text
+abbrev pub session_text : Chronicle → ℕ → List Try → Text
 session_text c session tries = line (codes "session " ++ decimal session) ++ flat_map (try_text c) tries
 
 abbrev pub kind_word : EngineKind → Text
@@ -114,7 +114,7 @@ abbrev pub replica_text : Chronicle → Catalog → ℕ → EngineKind × List (
 replica_text c catalog r replica = standing_line c r replica.0 ++ flat_map table_text (zip catalog.tables replica.1)
 
 -- The report. `tries` are the tries of each session in the order of their Begins, and `dumps` each replica's committed rows.
-abbrev pub report_text : List EngineKind → Catalog → Chronicle → List (List Tried) → List (List (List (List Value))) → Text
+abbrev pub report_text : List EngineKind → Catalog → Chronicle → List (List Try) → List (List (List (List Value))) → Text
 report_text kinds catalog c tries dumps =
     line (codes "hrdb report 1")
     ++ line (codes "commits " ++ decimal (length (committed c)))

@@ -6,11 +6,11 @@ ghost use Rattle.hr_base.specs.Texts.{each_from};
 ghost use Rattle.hr_history.specs.Processed.{given_in};
 ghost use Rattle.hr_run_report.specs.Report as report;
 
-use crate::tried::Tried;
 use hr_answer_text::push_answer;
 use hr_engine::{RunReply, TxnId};
 use hr_progress::View;
 use hr_rel::{Answer, Seq};
+use hr_schedule::Try;
 use hr_shepherd::Shepherd;
 use std::alloc::AllocError;
 
@@ -18,7 +18,7 @@ use std::alloc::AllocError;
 pub fn push_commits(
     out: &mut String,
     shepherd: &Shepherd,
-    tries: &[Seq<Tried>],
+    tries: &[Seq<Try>],
 ) -> Result<(), AllocError>
     ensures { OnOk result (string_bytes out.new ≡ string_bytes out.old ++ each_from (report.commit_text shepherd.now tries.now) 1 (report.committed shepherd.now)) }
 {
@@ -28,7 +28,7 @@ pub fn push_commits(
 fn push_log(
     out: &mut String,
     shepherd: &Shepherd,
-    tries: &[Seq<Tried>],
+    tries: &[Seq<Try>],
     log: &[TxnId],
 ) -> Result<(), AllocError>
     ensures { OnOk result (string_bytes out.new ≡ string_bytes out.old ++ each_from (report.commit_text shepherd.now tries.now) 1 log.now) }
@@ -42,7 +42,7 @@ fn push_log(
 fn push_commit(
     out: &mut String,
     shepherd: &Shepherd,
-    tries: &[Seq<Tried>],
+    tries: &[Seq<Try>],
     place: usize,
     txn: TxnId,
 ) -> Result<(), AllocError>
@@ -62,7 +62,7 @@ fn session_in(shepherd: &Shepherd, txn: TxnId) -> u32
 }
 
 // The tries of the session with this number, from 1.
-fn own_tries(tries: &[Seq<Tried>], session: u32) -> &[Tried]
+fn own_tries(tries: &[Seq<Try>], session: u32) -> &[Try]
     ensures { result.now ≡ report.own_tries tries.now session }
 {
     if session == 0 {
@@ -75,7 +75,7 @@ fn own_tries(tries: &[Seq<Tried>], session: u32) -> &[Tried]
 }
 
 // The number of the block that a transaction was a try of.
-fn block_of(txn: TxnId, tries: &[Tried]) -> u32
+fn block_of(txn: TxnId, tries: &[Try]) -> usize
     ensures { result ≡ report.block_of txn tries.now }
 {
     match tries {

@@ -7,7 +7,5 @@ mod endings;
 mod replicas;
 mod report;
 mod sessions;
-mod tried;
 
 pub use report::report_text;
-pub use tried::Tried;

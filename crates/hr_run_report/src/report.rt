@@ -6,9 +6,9 @@ use crate::commits::push_commits;
 use crate::convictions::push_convictions;
 use crate::replicas::push_replicas;
 use crate::sessions::push_sessions;
-use crate::tried::Tried;
 use hr_forms::EngineKind;
 use hr_rel::{Catalog, Rows, Seq};
+use hr_schedule::Try;
 use hr_shepherd::Shepherd;
 use std::alloc::{AllocError, Global};
 
@@ -19,7 +19,7 @@ pub fn report_text(
     kinds: &[EngineKind],
     catalog: &Catalog,
     shepherd: &Shepherd,
-    tries: &[Seq<Tried>],
+    tries: &[Seq<Try>],
     dumps: &[Rows],
 ) -> Result<String, AllocError>
     requires kinds { length kinds.now ≤ 2 * shepherd.now.f + 1 }

@@ -5,8 +5,8 @@ ghost use Rattle.hr_base.specs.Texts.{each_from};
 ghost use Rattle.hr_run_report.specs.Report as report;
 
 use crate::endings::push_ending;
-use crate::tried::Tried;
 use hr_rel::Seq;
+use hr_schedule::Try;
 use hr_shepherd::Shepherd;
 use std::alloc::{AllocError, Global};
 
@@ -15,7 +15,7 @@ pub fn push_sessions(
     alloc: Global,
     out: &mut String,
     shepherd: &Shepherd,
-    tries: &[Seq<Tried>],
+    tries: &[Seq<Try>],
 ) -> Result<(), AllocError>
     ensures { OnOk result (string_bytes out.new ≡ string_bytes out.old ++ each_from (report.session_text shepherd.now) 1 tries.now) }
 {
@@ -30,7 +30,7 @@ fn push_session(
     out: &mut String,
     shepherd: &Shepherd,
     session: usize,
-    tries: &Seq<Tried>,
+    tries: &Seq<Try>,
 ) -> Result<(), AllocError>
     ensures { OnOk result (string_bytes out.new ≡ string_bytes out.old ++ report.session_text shepherd.now session tries.now) }
 {
@@ -42,7 +42,7 @@ fn push_tries(
     alloc: Global,
     out: &mut String,
     shepherd: &Shepherd,
-    tries: &[Tried],
+    tries: &[Try],
 ) -> Result<(), AllocError>
     ensures { OnOk result (string_bytes out.new ≡ string_bytes out.old ++ flat_map (report.try_text shepherd.now) tries.now) }
 {
@@ -56,11 +56,11 @@ fn push_try(
     alloc: Global,
     out: &mut String,
     shepherd: &Shepherd,
-    tried: &Tried,
+    tried: &Try,
 ) -> Result<(), AllocError>
     ensures { OnOk result (string_bytes out.new ≡ string_bytes out.old ++ report.try_text shepherd.now tried.now) }
 {
-    let Tried { block, number, txn } = *tried;
+    let Try { block, number, txn } = *tried;
     let ending = shepherd.ending(alloc, txn)?;
     write!(out, "block {block} try {number}")?;
     write!(out, " txn {txn} ")?;
