@@ -1,3 +1,4 @@
+pub mod ByEntries
 pub mod Endings
 pub mod Convictions
 pub mod Report
