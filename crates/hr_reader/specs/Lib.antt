@@ -1,0 +1,4 @@
+pub mod Shaped
+pub mod Rows
+pub mod Reading
+pub mod Tables
