@@ -6,11 +6,13 @@
 
 mod choice;
 mod reply;
+mod round;
 mod script;
 mod session;
 mod take;
 
 pub use choice::{choose_replica, choose_session};
 pub use reply::give_reply;
+pub use round::{each_replica, each_session, replica_at, session_at};
 pub use script::make_call;
 pub use take::{suspect_all, take_job};
