@@ -1,13 +1,20 @@
 -- Choices one after another: those made so far, and one more.
-use Rattle.std.proofs.Common.{◌≡◌, ℕ, zero, suc, ◌+◌, List, [], ◌∷◌, ◌++◌, refl, ap, ◌∙◌, sym, subst, arith}
+use Rattle.std.proofs.Common.{◌≡◌, ℕ, zero, suc, ◌+◌, Option, Some, List, [], ◌∷◌, ◌++◌, length, map, take, slice_get, refl, ap, ◌∙◌, sym, subst, arith}
+use Rattle.std.specs.Prelude.{IfSome}
 use Rattle.std.specs.List.{range_with_len}
+use Rattle.std.proofs.lemmas.List.{length-map}
+use Rattle.hr_base.specs.Lists.{last_of}
+use Rattle.hr_engine.specs.Journal.{Journal}
+use Rattle.hr_engine.specs.Backend.{Standing}
 use Rattle.hr_history.specs.History.{History}
+use Rattle.hr_records.proofs.Options.{same_some, some_none}
 use Rattle.hr_ledger.specs.Chronicle.{Chronicle, history_in}
+use Rattle.hr_core.specs.Turns.{IsSameSize}
+use Rattle.hr_said.specs.declared.scenario.Scenario.{Scenario}
+use Rattle.hr_schedule.specs.declared.attempt.Try.{Try}
 use Rattle.hr_schedule.specs.Choices.{Making, Each, Times}
-use Rattle.hr_driver.specs.Made.{Made}
-
-pub nothing_made : {X : Type 0} (Of : X → Making) (c : Chronicle) → Made (Each Of []) c c
-nothing_made Of c = record { size = record { f = refl; sessions = refl }; made = refl }
+use Rattle.hr_driver.specs.Made.{Made, AreSameJournals, AreSameTries}
+use Rattle.hr_driver.specs.Whole.{IsUnder, AreAll, StandOn}
 
 each_more : {X : Type 0} (Of : X → Making) (xs : List X) (x : X) (a m b : History) → Each Of xs a m → Of x m b → Each Of (xs ++ x ∷ []) a b
 each_more Of [] x a m b same last = (b, subst (λ h. Of x h b) same last, refl)
@@ -36,3 +43,32 @@ times_more Once k a m b front made = record {
   size = record { f = made.size.f ∙ front.size.f; sessions = made.size.sessions ∙ front.size.sessions };
   made = subst (λ n. Times Once n (history_in a) (history_in b)) (next k) (history_in m, front.made, made.made);
 }
+
+-- ---- a list of choices
+
+take_longer : {X : Type 0} (xs : List X) (i : ℕ) (x : X) → slice_get xs i ≡ Some x → take i xs ++ x ∷ [] ≡ take (suc i) xs
+take_longer [] i x e = absurd (some_none x (sym e))
+take_longer (y ∷ xs) zero x e = ap (λ z. z ∷ []) (sym (same_some y x e))
+take_longer (y ∷ xs) (suc i) x e = ap (λ zs. y ∷ zs) (take_longer xs i x e)
+
+pub made_next : {X : Type 0} (Of : X → Making) (xs : List X) (i : ℕ) (x : X) (a m b : Chronicle) → slice_get xs i ≡ Some x → Made (Each Of (take i xs)) a m → Made (Of x) m b → Made (Each Of (take (i + 1) xs)) a b
+made_next Of xs i x a m b e front made = record {
+  size = record { f = made.size.f ∙ front.size.f; sessions = made.size.sessions ∙ front.size.sessions };
+  made = subst (λ ys. Each Of ys (history_in a) (history_in b)) (take_longer xs i x e ∙ ap (λ n. take n xs) (next i)) (each_more Of (take i xs) x (history_in a) (history_in m) (history_in b) front.made made.made);
+}
+
+-- ---- what stands where journals or tries do
+
+pub under_left : (sc : Scenario) (tries : List (Option Try)) (c d : Chronicle) → IsUnder sc tries c → IsSameSize c d → AreSameTries c d → IsUnder sc tries d
+under_left sc tries c d under size same = record {
+  f = size.f ∙ under.f;
+  sessions = size.sessions ∙ under.sessions;
+  many = under.many;
+  last = λ s first last. under.last s first last ∙ ap (λ (ts : List Try). Some (last_of ts)) (sym (same sc.retries s));
+}
+
+pub all_left : {X Y : Type 0} (f : X → Y) (sc : Scenario) (xs ys : List X) → AreAll sc xs → map f ys ≡ map f xs → AreAll sc ys
+all_left f sc xs ys all same = sym (length-map ys f) ∙ ap length same ∙ length-map xs f ∙ all
+
+pub stand_left : {X : Type 0} (stands : X → Standing) (xs : List X) (c d : Chronicle) → AreSameJournals c d → StandOn stands xs xs c d
+stand_left stands xs c d same = λ r start stood. subst (λ (j : Journal). IfSome (slice_get xs r) (λ b. stands b start j)) (sym (same r)) stood

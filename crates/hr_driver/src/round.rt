@@ -4,11 +4,12 @@ ghost use Rattle.hr_base.specs.Lists.{one_to};
 ghost use Rattle.hr_base.specs.declared.limits.TheConstants.{MAX_SESSIONS};
 ghost use Rattle.hr_history.specs.ReplicaNumbers.{replica_numbers};
 ghost use Rattle.hr_core.specs.Turns.{IsSameSize};
-ghost use Rattle.hr_schedule.specs.Choices.{Each, OfReplica, OfSession};
+ghost use Rattle.hr_schedule.specs.Choices.{Each, GiveReply, OfReplica, OfSession};
 ghost use Rattle.hr_driver.specs.Made.{Made, AreSameJournals, AreSameTries};
 ghost use Rattle.hr_driver.specs.Whole.{IsUnder, AreAll, StandOn};
 
 use crate::choice::{choose_replica, choose_session};
+use crate::reply::give_reply;
 use hr_engine::Backend;
 use hr_said::Scenario;
 use hr_schedule::Try;
@@ -107,4 +108,16 @@ pub fn replica_at<B: Backend>(
         &mut backends[replica as usize],
         replica,
     )
+}
+
+/// The reply of the replica with this number.
+pub fn give_at<B: Backend>(alloc: Global, shepherd: &mut Shepherd, backends: &mut [B], replica: u32)
+    requires known { replica ≤ 2 * shepherd.old.f }
+    requires all { length backends.old ≡ 2 * shepherd.old.f + 1 }
+    ensures made { Made (GiveReply shepherd.old.f replica) shepherd.old shepherd.new }
+    ensures stands { StandOn B.stands backends.old backends.new shepherd.old shepherd.new }
+    ensures make { map B.make backends.new ≡ map B.make backends.old }
+    ensures tries { AreSameTries shepherd.old shepherd.new }
+{
+    give_reply(alloc, shepherd, &mut backends[replica as usize], replica);
 }
