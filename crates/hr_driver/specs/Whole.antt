@@ -1,5 +1,5 @@
 -- What stands of all sessions and of all replicas, between the choices.
-use Rattle.std.specs.Prelude.{◌≡◌, ◌≤◌, ◌*◌, ◌+◌, ℕ, Option, Some, List, length, slice_get, IfSome, ⊤}
+use Rattle.std.specs.Prelude.{◌≡◌, ◌≤◌, ◌*◌, ◌+◌, ℕ, Option, Some, List, [], length, slice_get, IfSome, ⊤}
 use Rattle.hr_base.specs.Lists.{numbered}
 use Rattle.hr_base.specs.declared.limits.TheConstants.{MAX_SESSIONS}
 use Rattle.hr_rel.specs.Database.{Database}
@@ -49,3 +49,7 @@ IsThere sc (choice.Rounds k) = ⊤
 -- each of the choices is
 abbrev pub AreThere : Scenario → List Choice → Type 0
 AreThere sc choices = (i : ℕ) (c : Choice) → slice_get choices i ≡ Some c → IsThere sc c
+
+-- each backend that stood for nothing, from any start, stands for its replica's journal
+abbrev pub StandFromNothing : {X : Type 0} → (X → Standing) → List X → List X → Chronicle → Type 0
+StandFromNothing stands were now after = (r : ℕ) (start : Database) → IfSome (slice_get were r) (λ b. stands b start []) → StandsAt stands now r start after

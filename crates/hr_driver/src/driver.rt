@@ -1,6 +1,6 @@
 //! The choices of a schedule, one after another.
 ghost use Rattle.std.specs.Prelude.{◌≡◌, ◌≤◌, ◌*◌, map, OnOk};
-ghost use Rattle.hr_schedule.specs.Choices.{Each, Times, Round, Chooses};
+ghost use Rattle.hr_schedule.specs.Choices.{Each, Times, Round, Chooses, choices};
 ghost use Rattle.hr_said.specs.declared.scenario.Choice.TheVariants as choice;
 ghost use Rattle.hr_driver.specs.Made.{Made};
 ghost use Rattle.hr_driver.specs.Whole.{IsReady, IsThere, AreThere, StandOn};
@@ -24,6 +24,21 @@ pub struct Driver<B> {
 // Whether or not memory is refused on the way, each of these leaves the driver ready, its backends of the same make, and each
 // that stood for its replica's journal still stands for it.
 impl<B: Backend> Driver<B> {
+    /// Makes the choices of the schedule; where the scenario has none, 200 rounds.
+    pub fn schedule(&mut self, alloc: Global, scenario: &Scenario) -> Result<(), AllocError>
+        requires known { AreThere scenario.now (choices scenario.now) }
+        requires ready { IsReady scenario.now self.old }
+        ensures ok { OnOk result (Made (Each (Chooses scenario.now) (choices scenario.now)) self.old.shepherd self.new.shepherd) }
+        ensures ready { IsReady scenario.now self.new }
+        ensures stands { StandOn B.stands self.old.backends.items self.new.backends.items self.old.shepherd self.new.shepherd }
+        ensures make { map B.make self.new.backends.items ≡ map B.make self.old.backends.items }
+    {
+        match &scenario.schedule {
+            Some(choices) => self.run(alloc, scenario, choices.as_slice()),
+            None => self.run(alloc, scenario, &[Choice::Rounds(200)]),
+        }
+    }
+
     /// Makes these choices, in their order.
     pub fn run(
         &mut self,

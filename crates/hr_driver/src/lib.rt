@@ -10,6 +10,7 @@ mod reply;
 mod round;
 mod script;
 mod session;
+mod start;
 mod take;
 
 pub use choice::{choose_replica, choose_session};
@@ -17,4 +18,5 @@ pub use driver::Driver;
 pub use reply::give_reply;
 pub use round::{each_replica, each_session, replica_at, session_at};
 pub use script::make_call;
+pub use start::drive;
 pub use take::{suspect_all, take_job};
