@@ -3,3 +3,4 @@ pub mod ReplyLemmas
 pub mod SuspectLemmas
 pub mod SessionLemmas
 pub mod CallLemmas
+pub mod RoundLemmas

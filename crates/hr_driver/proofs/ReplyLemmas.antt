@@ -21,6 +21,7 @@ use Rattle.hr_shepherd.proofs.Lent.{out_here}
 use Rattle.hr_core.specs.Turns.{HasTurn}
 use Rattle.hr_schedule.specs.Choices.{Replies, GiveReply}
 use Rattle.hr_driver.specs.Made.{Made, Replied}
+use Rattle.hr_driver.proofs.CallLemmas.{tries_over}
 use Rattle.hr_driver.proofs.TurnParts.{after_give, beside_give, after_restart, beside_restart}
 
 -- what a backend answers to a run fits the run
@@ -40,6 +41,7 @@ module _ (was stands : Standing) (r : ℕ) (c d : Chronicle) where
     turn = turn;
     own = λ db stood. subst (stands db) (sym (after_give c d r told j call turn out is)) (extends db (journal_of r (history_in c)) stood);
     others = beside_give c d r told turn;
+    tries = λ n q. tries_over c.f (replica_caller r) (event.Give r told) (history_in c) (history_in d) turn.turn n q;
   }
 
   pub replied : (told : JobReply) (j : Job) (call : Call) → Extends was stands call → (n : ℕ) → n ≡ r → HasTurn (n + 1) (event.Give r told) c d → out_at r (history_in c) ≡ Some j
@@ -53,6 +55,7 @@ module _ (was stands : Standing) (r : ℕ) (c d : Chronicle) where
     turn = turn;
     own = λ db stood. subst (stands db) (sym (after_restart c d r count turn out)) (extends db (journal_of r (history_in c)) stood);
     others = beside_restart c d r count turn;
+    tries = λ n q. tries_over c.f (replica_caller r) (event.Restarted r count) (history_in c) (history_in d) turn.turn n q;
   }
 
   pub restarted : (told : Result ℕ Lost) (count : ℕ) → Extends was stands (Restarted told) → told ≡ Ok count → (n : ℕ) → n ≡ r → HasTurn (n + 1) (event.Restarted r count) c d

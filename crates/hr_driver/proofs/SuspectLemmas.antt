@@ -13,14 +13,19 @@ use Rattle.hr_core.specs.Suspects.{suspects}
 use Rattle.hr_core.specs.Turns.{HasTurn, IsSameSize}
 use Rattle.hr_shepherd.specs.Taken.{IsTaken}
 use Rattle.hr_said.specs.declared.scenario.Scenario.{Scenario}
+use Rattle.hr_schedule.specs.Tries.{tries_of}
 use Rattle.hr_schedule.specs.Choices.{AllSuspects, is_suspect_due, is_reached}
-use Rattle.hr_driver.specs.Made.{Made, AreSameJournals, HasSuspected}
+use Rattle.hr_driver.specs.Made.{Made, AreSameJournals, AreSameTries, HasSuspected}
 use Rattle.hr_driver.proofs.CallLemmas.{tries_over}
 use Rattle.hr_driver.proofs.TurnParts.{grown, suspects_over}
 
 pub taken_same : (caller r : ℕ) (taken : Option Job) (c d : Chronicle) → IsTaken caller r taken c d → AreSameJournals c d
 taken_same caller r None c d same = λ q. ap (λ (s : Chronicle). journal_of q (history_in s)) same
 taken_same caller r (Some j) c d turn = λ q. grown c d caller (event.Take r j) turn q
+
+pub taken_tries : (caller r : ℕ) (taken : Option Job) (c d : Chronicle) → IsTaken caller r taken c d → AreSameTries c d
+taken_tries caller r None c d same = λ n q. ap (λ (s : Chronicle). tries_of n q (history_in s)) same
+taken_tries caller r (Some j) c d turn = λ n q. tries_over c.f caller (event.Take r j) (history_in c) (history_in d) turn.turn n q
 
 pub none_yet : (sc : Scenario) (c : Chronicle) → HasSuspected sc c c
 none_yet sc c = record { size = record { f = refl; sessions = refl }; times = (0, refl); journals = λ q. refl; tries = λ r q. refl }

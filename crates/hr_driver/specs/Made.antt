@@ -23,14 +23,6 @@ pub record Made (making : Making) (before after : Chronicle) : Type 0 where
 abbrev pub StandsOn : Standing → Standing → ℕ → Chronicle → Chronicle → Type 0
 StandsOn was stands r before after = (db : Database) → was db (journal_of r (history_in before)) → stands db (journal_of r (history_in after))
 
--- Replica r has replied in a turn, and its backend stands for the journal with this reply; no other journal has changed.
-pub record Replied (was stands : Standing) (r : ℕ) (before after : Chronicle) : Type 0 where
-  pub event : Event
-  pub is_reply : IsReply r event
-  pub turn : HasTurn (replica_caller r) event before after
-  pub own : StandsOn was stands r before after
-  pub others : (q : ℕ) → (q ≡ r → ⊥) → journal_of q (history_in after) ≡ journal_of q (history_in before)
-
 -- no replica's journal has changed
 abbrev pub AreSameJournals : Chronicle → Chronicle → Type 0
 AreSameJournals before after = (q : ℕ) → journal_of q (history_in after) ≡ journal_of q (history_in before)
@@ -38,6 +30,15 @@ AreSameJournals before after = (q : ℕ) → journal_of q (history_in after) ≡
 -- no session's tries have changed
 abbrev pub AreSameTries : Chronicle → Chronicle → Type 0
 AreSameTries before after = (r q : ℕ) → tries_of r q (history_in after) ≡ tries_of r q (history_in before)
+
+-- Replica r has replied in a turn, and its backend stands for the journal with this reply; no other journal has changed, and no tries.
+pub record Replied (was stands : Standing) (r : ℕ) (before after : Chronicle) : Type 0 where
+  pub event : Event
+  pub is_reply : IsReply r event
+  pub turn : HasTurn (replica_caller r) event before after
+  pub own : StandsOn was stands r before after
+  pub others : (q : ℕ) → (q ≡ r → ⊥) → journal_of q (history_in after) ≡ journal_of q (history_in before)
+  pub tries : AreSameTries before after
 
 -- Of the suspicions that are due some have come.
 pub record HasSuspected (sc : Scenario) (before now : Chronicle) : Type 0 where

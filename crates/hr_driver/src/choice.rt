@@ -4,7 +4,7 @@ ghost use Rattle.hr_core.specs.Turns.{IsSameSize};
 ghost use Rattle.hr_ledger.specs.Chronicle.{history_in};
 ghost use Rattle.hr_schedule.specs.Tries.{last_try};
 ghost use Rattle.hr_schedule.specs.Choices.{OfReplica, OfSession};
-ghost use Rattle.hr_driver.specs.Made.{Made, StandsOn, AreSameOthers, AreSameJournals, AreSameTriesBut, IsSessionOf};
+ghost use Rattle.hr_driver.specs.Made.{Made, StandsOn, AreSameOthers, AreSameJournals, AreSameTries, AreSameTriesBut, IsSessionOf};
 
 use crate::reply::give_reply;
 use crate::script::make_call;
@@ -16,7 +16,7 @@ use hr_shepherd::Shepherd;
 use std::alloc::{AllocError, Global};
 
 /// A replica takes its job and replies to it, and the suspicions that are due come behind. Whether or not memory is refused on
-/// the way, its backend stands for its journal, and no other journal has changed.
+/// the way, its backend stands for its journal, no other journal has changed, and no session's tries.
 pub fn choose_replica<B: Backend>(
     alloc: Global,
     scenario: &Scenario,
@@ -30,6 +30,7 @@ pub fn choose_replica<B: Backend>(
     ensures size { IsSameSize shepherd.old shepherd.new }
     ensures stands { StandsOn (B.stands backend.old) (B.stands backend.new) replica shepherd.old shepherd.new }
     ensures others { AreSameOthers replica shepherd.old shepherd.new }
+    ensures tries { AreSameTries shepherd.old shepherd.new }
     ensures make { B.make backend.new ≡ B.make backend.old }
 {
     take_job(alloc, shepherd, replica)?;
@@ -49,6 +50,7 @@ pub fn choose_session(
     requires known { IsSessionOf scenario.now session shepherd.old }
     requires last { last.old ≡ last_try scenario.now.retries session (history_in shepherd.old) }
     ensures ok { OnOk result (Made (OfSession scenario.now session) shepherd.old shepherd.new) }
+    ensures size { IsSameSize shepherd.old shepherd.new }
     ensures journals { AreSameJournals shepherd.old shepherd.new }
     ensures others { AreSameTriesBut session shepherd.old shepherd.new }
     ensures last { last.new ≡ last_try scenario.now.retries session (history_in shepherd.new) }

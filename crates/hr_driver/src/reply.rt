@@ -6,7 +6,7 @@ ghost use Rattle.hr_history.specs.declared.job.Job.TheVariants as job;
 ghost use Rattle.hr_history.specs.Replicas.{out_at, journal_of, stmt_at};
 ghost use Rattle.hr_ledger.specs.Chronicle.{history_in};
 ghost use Rattle.hr_schedule.specs.Choices.{GiveReply};
-ghost use Rattle.hr_driver.specs.Made.{Made, Replied, StandsOn};
+ghost use Rattle.hr_driver.specs.Made.{Made, Replied, StandsOn, AreSameTries};
 
 use hr_engine::{Backend, RunReply, TxnId};
 use hr_history::{Job, JobReply};
@@ -19,6 +19,7 @@ pub fn give_reply<B: Backend>(alloc: Global, shepherd: &mut Shepherd, backend: &
     ensures made { Made (GiveReply shepherd.old.f replica) shepherd.old shepherd.new }
     ensures stands { StandsOn (B.stands backend.old) (B.stands backend.new) replica shepherd.old shepherd.new }
     ensures others { (q : ℕ) → (q ≡ replica → ⊥) → journal_of q (history_in shepherd.new) ≡ journal_of q (history_in shepherd.old) }
+    ensures tries { AreSameTries shepherd.old shepherd.new }
     ensures make { B.make backend.new ≡ B.make backend.old }
 {
     match shepherd.view().out(replica) {

@@ -13,13 +13,14 @@ use hr_said::Scenario;
 use hr_shepherd::Shepherd;
 use std::alloc::{AllocError, Global};
 
-/// A replica takes its job, if there is one. Its journal doesn't change by that, nor does any other.
+/// A replica takes its job, if there is one. No journal changes by that, nor do any session's tries.
 pub fn take_job(alloc: Global, shepherd: &mut Shepherd, replica: u32) -> Result<(), AllocError>
     requires known { replica ≤ 2 * shepherd.old.f }
     ensures ok { OnOk result (Made (TakeJob shepherd.old.f replica) shepherd.old shepherd.new) }
     ensures err { OnErr result (shepherd.new ≡ shepherd.old) }
     ensures size { IsSameSize shepherd.old shepherd.new }
     ensures journals { AreSameJournals shepherd.old shepherd.new }
+    ensures tries { AreSameTries shepherd.old shepherd.new }
 {
     match shepherd.take_job(alloc, u64::from(replica) + 1, replica) {
         Ok(_) => Ok(()),
