@@ -47,7 +47,7 @@ pub record HasSuspected (sc : Scenario) (before now : Chronicle) : Type 0 where
   pub journals : AreSameJournals before now
   pub tries : AreSameTries before now
 
--- nor has that of any but r
+-- no journal but that of replica r has changed
 abbrev pub AreSameOthers : ℕ → Chronicle → Chronicle → Type 0
 AreSameOthers r before after = (q : ℕ) → (q ≡ r → ⊥) → journal_of q (history_in after) ≡ journal_of q (history_in before)
 

@@ -1,7 +1,7 @@
 //! The driver's calls: each makes a choice of a schedule, or a part of one, on the kept history of a shepherd, with a backend
 //! behind each replica.
 //!
-//! [`Driver`] makes a whole schedule's choices.
+//! [`drive`] runs a whole scenario from nothing, and [`Driver`] makes any choices on the history that it keeps.
 #![tactic(auto)]
 
 mod choice;
