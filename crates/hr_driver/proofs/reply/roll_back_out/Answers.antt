@@ -6,4 +6,4 @@ use Rattle.hr_driver.proofs.ReplyLemmas.{replied}
 use Rattle.hr_driver.proofs.reply.roll_back_out.Goals as goal
 
 pub returns-clause-replied : goal.returns-clause-replied
-returns-clause-replied g c = replied _ _ _ _ _ (reply.Ended _) (job.Rollback _) (RolledBack _ _) c.rollback-reply.ensures.journal _ c.from.ensures c.give.ensures c.requires.out refl
+returns-clause-replied g c = replied _ _ _ _ _ (reply.Ended _) (job.Rollback _) (RolledBack _ _) c.rollback-reply.ensures.journal _ c.from.ensures c.give.ensures.turn c.requires.out refl

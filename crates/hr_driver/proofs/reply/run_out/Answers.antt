@@ -10,4 +10,4 @@ pub give-requires-clause-fits : goal.give-requires-clause-fits
 give-requires-clause-fits g c = ap (fits_job (reply.Ran _)) c.requires.out ∙ fits_run _ _ _ c.run_lent-reply.ensures.canonical
 
 pub returns-clause-replied : goal.returns-clause-replied
-returns-clause-replied g c = replied _ _ _ _ _ (reply.Ran _) (job.Run _ _) (Ran _ _ _) c.run_lent-reply.ensures.journal _ c.from.ensures c.give.ensures c.requires.out refl
+returns-clause-replied g c = replied _ _ _ _ _ (reply.Ran _) (job.Run _ _) (Ran _ _ _) c.run_lent-reply.ensures.journal _ c.from.ensures c.give.ensures.turn c.requires.out refl
