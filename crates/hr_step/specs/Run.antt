@@ -1,0 +1,42 @@
+-- What the report of a scenario tells of.
+use Rattle.std.specs.Prelude.{◌≡◌, ◌+◌, ◌*◌, List, length, map}
+use Rattle.hr_base.specs.Lists.{one_to}
+use Rattle.hr_base.specs.Texts.{Text}
+use Rattle.hr_rel.specs.declared.stmt.Stmt.{Stmt}
+use Rattle.hr_parts.specs.Parts.{Part}
+use Rattle.hr_parts.specs.Footprints.{table_parts}
+use Rattle.hr_parts.specs.Keys.{key_parts}
+use Rattle.hr_lock_engine.specs.Conflicts.{by_parts}
+use Rattle.hr_forms.specs.declared.line.EngineKind.{EngineKind}
+use Rattle.hr_forms.specs.declared.line.EngineKind.TheVariants as kind
+use Rattle.hr_said.specs.declared.scenario.Scenario.{Scenario}
+use Rattle.hr_ledger.specs.Chronicle.{Chronicle, history_in}
+use Rattle.hr_schedule.specs.declared.attempt.Try.{Try}
+use Rattle.hr_schedule.specs.Tries.{tries_of}
+use Rattle.hr_schedule.specs.Claims.{Locking, TableRows, IsRun, Claims}
+use Rattle.hr_run_report.specs.Report.{report_text}
+
+-- the rows that a statement needs at each kind of engine: whole tables, or intervals of keys
+abbrev pub parts_at : EngineKind → Stmt → List Part
+parts_at kind.ByTable stmt = table_parts stmt
+parts_at kind.ByRange stmt = key_parts stmt
+
+-- statements conflict at an engine where the rows that they need there meet
+abbrev pub locking : Locking
+locking kind = by_parts (parts_at kind)
+
+-- the tries of each session of a kept history
+abbrev pub tries_in : Scenario → Chronicle → List (List Try)
+tries_in sc kept = map (λ s. tries_of sc.retries s (history_in kept)) (one_to (length sc.scripts))
+
+-- The text tells of a run of the scenario: there is one kept history that its choices make, over engines of its kinds behind
+-- its scripts, for which all holds that is claimed of such runs; and the text is the report of this history and of the rows
+-- that these engines have committed.
+pub record IsReport (sc : Scenario) (text : Text) : Type 0 where
+  pub kept : Chronicle
+  pub dumps : List TableRows
+  pub size : (kept.f ≡ sc.f) × (kept.sessions ≡ length sc.scripts)
+  pub all : length dumps ≡ 2 * sc.f + 1
+  pub run : IsRun locking sc (history_in kept) dumps
+  pub claims : Claims locking sc (history_in kept) dumps
+  pub text : text ≡ report_text sc.kinds sc.catalog kept (tries_in sc kept) dumps

@@ -1,0 +1,9 @@
+//! Runs a scenario, and reports the run: the shepherd over the two engines, each behind its script.
+#![tactic(auto)]
+
+mod backends;
+mod copy;
+mod report;
+mod run;
+
+pub use report::report;
