@@ -3,6 +3,7 @@
 
 mod backends;
 mod copy;
+mod dumps;
 mod report;
 mod run;
 

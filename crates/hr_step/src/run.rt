@@ -1,14 +1,13 @@
 //! A run: what the schedule's choices make of the shepherd's history, and the rows that each replica has committed then.
-ghost use Rattle.std.specs.Prelude.{◌≡◌, ◌+◌, ◌*◌, length, IfOk, map};
-ghost use Rattle.hr_engine.specs.Backend.{Standing};
+ghost use Rattle.std.specs.Prelude.{◌≡◌, ◌+◌, ◌*◌, length, IfOk};
 ghost use Rattle.hr_ledger.specs.Chronicle.{history_in};
-ghost use Rattle.hr_schedule.specs.Claims.{IsRun, Claims};
+ghost use Rattle.hr_schedule.specs.Claims.{IsRun};
 ghost use Rattle.hr_runnable.specs.Runnable.{IsRunnable};
 ghost use Rattle.hr_step.specs.Run.{locking};
 
 use crate::backends::backends;
+use crate::dumps::dumps;
 use hr_driver::{Driver, drive};
-use hr_engine::Backend;
 use hr_engines::Engines;
 use hr_faulty::Faulty;
 use hr_rel::Rows;
@@ -34,5 +33,6 @@ pub fn run(alloc: Global, scenario: &Scenario) -> Result<Ran, AllocError>
     let backends = backends(alloc, scenario)?;
     let driver = drive(alloc, scenario, backends)?;
     let dumps = dumps(alloc, driver.backends.as_slice())?;
+    let _history = driver.shepherd.history();
     Ok(Ran { driver, dumps })
 }
