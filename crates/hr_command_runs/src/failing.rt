@@ -15,17 +15,14 @@ pub fn reads(alloc: Global, text: &[u8]) -> Result<String, AllocError> {
         // The last read finds the end.
         let calls = text.len() / piece + usize::from(text.len() % piece != 0) + 1;
         let told = read_faults(alloc, text, piece, calls)?;
-        lines.push_str(format!(in alloc; "pieces of {piece}: {told} of {calls} reads\n")?.as_str())?;
+        lines.push_str(format!(in alloc;
+            "pieces of {piece}: {told} of {calls} reads\n"
+        )?.as_str())?;
     }
     Ok(lines)
 }
 
-fn read_faults(
-    alloc: Global,
-    text: &[u8],
-    piece: usize,
-    calls: usize,
-) -> Result<usize, AllocError>
+fn read_faults(alloc: Global, text: &[u8], piece: usize, calls: usize) -> Result<usize, AllocError>
     requires { 0 < piece }
 {
     let mut told = 0;
@@ -51,7 +48,9 @@ pub fn writes(alloc: Global, text: &[u8]) -> Result<String, AllocError> {
     for piece in PIECES {
         let calls = whole.len() / piece + usize::from(whole.len() % piece != 0);
         let told = write_faults(alloc, text, whole.as_slice(), piece, calls)?;
-        lines.push_str(format!(in alloc; "pieces of {piece}: {told} of {calls} writes\n")?.as_str())?;
+        lines.push_str(format!(in alloc;
+            "pieces of {piece}: {told} of {calls} writes\n"
+        )?.as_str())?;
     }
     Ok(lines)
 }

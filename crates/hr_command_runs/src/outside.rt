@@ -31,12 +31,7 @@ pub struct Ran {
 }
 
 /// Runs the command of these words, with blanks between them, on a text.
-pub fn run(
-    alloc: Global,
-    words: &str,
-    text: &[u8],
-    outside: Outside,
-) -> Result<Ran, AllocError>
+pub fn run(alloc: Global, words: &str, text: &[u8], outside: Outside) -> Result<Ran, AllocError>
     requires { 0 < outside.piece }
 {
     let words = listed(alloc, words)?;
