@@ -2,7 +2,7 @@ use Rattle.std.proofs.Common.{subst, ◌∙◌}
 use Rattle.std.specs.Io.KnownBytes.{Appends}
 use Rattle.hr_io.specs.Bytes.{AppendsFront}
 use Rattle.hr_base.specs.Texts.{Text}
-use Rattle.hr_scenario.specs.Input.{IsScenario}
+
 use Rattle.hrdb.proofs.Streams.{kept}
 use Rattle.hrdb.proofs.top.step.Goals as goal
 
