@@ -3,8 +3,8 @@ use Rattle.std.specs.Io.KnownBytes.{Appends}
 use Rattle.hr_io.specs.Bytes.{AppendsFront}
 use Rattle.hr_base.specs.Texts.{Text}
 
-use Rattle.hrdb.proofs.Streams.{kept}
-use Rattle.hrdb.proofs.top.step.Goals as goal
+use Rattle.hr_command.proofs.Streams.{kept}
+use Rattle.hr_command.proofs.top.step.Goals as goal
 
 pub returns-in-Err-Refused-clause-silent : goal.returns-in-Err-Refused-clause-silent
 returns-in-Err-Refused-clause-silent g c silent = kept _
