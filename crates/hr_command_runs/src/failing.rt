@@ -13,7 +13,7 @@ pub fn reads(alloc: Global, text: &[u8]) -> Result<String, AllocError> {
     let mut lines = String::new(alloc);
     for piece in PIECES {
         // The last read finds the end.
-        let calls = text.len() / piece + usize::from(text.len() % piece != 0) + 1;
+        let calls = text.len().div_ceil(piece) + 1;
         let told = read_faults(alloc, text, piece, calls)?;
         lines.push_str(format!(in alloc;
             "pieces of {piece}: {told} of {calls} reads\n"
@@ -25,7 +25,7 @@ pub fn reads(alloc: Global, text: &[u8]) -> Result<String, AllocError> {
 fn read_faults(alloc: Global, text: &[u8], piece: usize, calls: usize) -> Result<usize, AllocError>
     requires { 0 < piece }
 {
-    let mut told = 0;
+    let mut told = 0usize;
     for call in 0..calls {
         let outside = Outside {
             piece,
@@ -34,7 +34,7 @@ fn read_faults(alloc: Global, text: &[u8], piece: usize, calls: usize) -> Result
         };
         let ran = run(alloc, "step", text, outside)?;
         if ran.status == Status::ReadFault && ran.written.is_empty() {
-            told += 1;
+            told = told.saturating_add(1);
         }
     }
     Ok(told)
@@ -46,7 +46,7 @@ pub fn writes(alloc: Global, text: &[u8]) -> Result<String, AllocError> {
     let whole = run(alloc, "step", text, SOUND)?.written;
     let mut lines = String::new(alloc);
     for piece in PIECES {
-        let calls = whole.len() / piece + usize::from(whole.len() % piece != 0);
+        let calls = whole.len().div_ceil(piece);
         let told = write_faults(alloc, text, whole.as_slice(), piece, calls)?;
         lines.push_str(format!(in alloc;
             "pieces of {piece}: {told} of {calls} writes\n"
@@ -64,7 +64,7 @@ fn write_faults(
 ) -> Result<usize, AllocError>
     requires { 0 < piece }
 {
-    let mut told = 0;
+    let mut told = 0usize;
     for call in 0..calls {
         let outside = Outside {
             piece,
@@ -74,7 +74,7 @@ fn write_faults(
         let ran = run(alloc, "step", text, outside)?;
         let front = call.saturating_mul(piece).min(whole.len());
         if ran.status == Status::WriteFault && ran.written.as_slice() == &whole[..front] {
-            told += 1;
+            told = told.saturating_add(1);
         }
     }
     Ok(told)

@@ -8,7 +8,7 @@ use std::alloc::{AllocError, Global};
 /// What is told of `step` on copies of a text that together are 1 MiB, and of those and a byte.
 pub fn full(alloc: Global, text: &[u8]) -> Result<String, AllocError> {
     let mut bytes = Vec::new(alloc);
-    while bytes.len() < MAX_SCENARIO_BYTES && !text.is_empty() {
+    for _copy in 0..MAX_SCENARIO_BYTES.checked_div(text.len()).unwrap_or(0) {
         bytes.extend_from_slice(text)?;
     }
     let mut lines = told(alloc, &run(alloc, "step", bytes.as_slice(), SOUND)?)?;
