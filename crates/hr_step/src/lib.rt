@@ -4,7 +4,8 @@
 mod backends;
 mod copy;
 mod dumps;
-mod report;
-mod run;
 
-pub use report::report;
+mod run;
+mod step;
+
+pub use step::report;
