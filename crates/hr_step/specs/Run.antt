@@ -39,4 +39,4 @@ pub record IsReport (sc : Scenario) (text : Text) : Type 0 where
   pub all : length dumps ≡ 2 * sc.f + 1
   pub run : IsRun locking sc (history_in kept) dumps
   pub claims : Claims locking sc (history_in kept) dumps
-  pub text : text ≡ report_text sc.kinds sc.catalog kept (tries_in sc kept) dumps
+  pub is : text ≡ report_text sc.kinds sc.catalog kept (tries_in sc kept) dumps

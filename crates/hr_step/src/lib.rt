@@ -1,10 +1,9 @@
 //! Runs a scenario, and reports the run: the shepherd over the two engines, each behind its script.
 #![tactic(auto)]
 
-mod backends;
 mod copy;
-mod dumps;
-
+mod engines;
+mod replica;
 mod run;
 mod step;
 
