@@ -1,18 +1,15 @@
 -- Each call of a session was, when it came, the next of its script.
-use Rattle.std.proofs.Common.{◌≡◌, ◌⊎◌, inl, inr, ℕ, Bool, true, false, Option, Some, None, List, [], ◌∷◌, ◌++◌, refl, ap, sym, ◌∙◌, subst}
+use Rattle.std.proofs.Common.{◌≡◌, ℕ, true, false, Option, Some, None, List, [], ◌∷◌, ◌++◌, refl, sym, subst}
 use Rattle.hr_said.specs.declared.scenario.Scenario.{Scenario}
 use Rattle.hr_history.specs.declared.entry.Entry.{Entry}
 use Rattle.hr_history.specs.declared.entry.Event.{Event}
 use Rattle.hr_history.specs.declared.entry.Event.TheVariants as event
-use Rattle.hr_history.specs.declared.job.Job.{Job}
-use Rattle.hr_history.specs.declared.job.JobReply.{JobReply}
 use Rattle.hr_history.specs.History.{History, is_call}
 use Rattle.hr_history.specs.Rules.{due}
 use Rattle.hr_history.specs.Faithful.{same_event, session_caller, replica_caller}
 use Rattle.hr_history.specs.Turns.{is_due, FollowFrom}
 use Rattle.hr_records.proofs.NumberSteps.{not_both}
 use Rattle.hr_moves.specs.Callers.{IsTurn}
-use Rattle.hr_schedule.specs.Scripts.{next_call_of}
 use Rattle.hr_schedule.specs.Choices.{IsReply, Chosen}
 use Rattle.hr_scripted.specs.Calls.{is_session_call}
 use Rattle.hr_scripted.specs.Scripted.{IsNextOfScript}

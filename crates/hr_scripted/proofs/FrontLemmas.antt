@@ -1,5 +1,5 @@
 -- A try's calls are the first of those that its block says, call by call.
-use Rattle.std.proofs.Common.{◌≡◌, ℕ, zero, suc, ◌+◌, Bool, true, false, ◌||◌, Option, Some, None, List, [], ◌∷◌, ◌++◌, length, refl, ap, sym, ◌∙◌, subst, arith, append-nil}
+use Rattle.std.proofs.Common.{◌≡◌, ℕ, ◌+◌, Bool, true, false, List, [], ◌∷◌, ◌++◌, length, refl, ap, sym, ◌∙◌, subst, arith, append-nil}
 use Rattle.std.proofs.lemmas.List.{append_assoc}
 use Rattle.hr_rel.specs.declared.stmt.Stmt.{Stmt}
 use Rattle.hr_said.specs.declared.scenario.Block.{Block}
@@ -7,7 +7,7 @@ use Rattle.hr_history.specs.declared.entry.Event.{Event}
 use Rattle.hr_history.specs.declared.entry.Event.TheVariants as event
 use Rattle.hr_history.specs.declared.phase.Phase.{Phase}
 use Rattle.hr_history.specs.declared.phase.Phase.TheVariants as phase
-use Rattle.hr_history.specs.Transactions.{is_asked, is_logged}
+use Rattle.hr_history.specs.Transactions.{is_asked}
 use Rattle.hr_records.specs.AtReplica.{Begins}
 use Rattle.hr_schedule.specs.Scripts.{end_call}
 use Rattle.hr_scripted.specs.Calls.{submits_from, block_calls}

@@ -22,7 +22,7 @@ use Rattle.hr_schedule.specs.Choices.{Chosen}
 use Rattle.hr_scripted.specs.Scripted.{FollowsBlock, IsAgain, IsOfNext, IsTry, TriesStand, CallsStand}
 use Rattle.hr_scripted.proofs.CallLemmas.{all_right, each_right}
 use Rattle.hr_scripted.proofs.TryLemmas.{SoFar, so_far}
-use Rattle.hr_scripted.proofs.FrontLemmas.{was_ended, IsCalled}
+use Rattle.hr_scripted.proofs.FrontLemmas.{was_ended}
 use Rattle.hr_scripted.proofs.OrderLemmas.{InOrder, in_order}
 
 logged_not_refused : (p : ℕ) → phase.Logged p ≡ phase.Refused → ⊥

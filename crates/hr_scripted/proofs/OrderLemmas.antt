@@ -1,5 +1,5 @@
 -- A session's calls are those of its tries, one try after another, entry by entry.
-use Rattle.std.proofs.Common.{◌≡◌, ◌⊎◌, inl, inr, ℕ, zero, suc, ◌+◌, ◌*◌, ◌<◌, ◌≤◌, Bool, true, false, cond, ◌&&◌, ◌==◌, Option, Some, None, List, [], ◌∷◌, ◌++◌, length, length-append, append-nil, refl, ap, sym, ◌∙◌, subst, arith}
+use Rattle.std.proofs.Common.{◌≡◌, inl, inr, ℕ, zero, suc, ◌+◌, ◌<◌, Bool, true, false, cond, ◌&&◌, ◌==◌, Some, None, List, [], ◌∷◌, ◌++◌, length, length-append, append-nil, refl, ap, sym, ◌∙◌, subst, arith}
 use Rattle.std.specs.Prelude.{slice_get}
 use Rattle.std.specs.List.{flat_map}
 use Rattle.std.proofs.lemmas.List.{append_assoc}
@@ -8,25 +8,22 @@ use Rattle.hr_base.specs.Lists.{numbered, last_of}
 use Rattle.hr_rel.specs.declared.stmt.Stmt.{Stmt}
 use Rattle.hr_said.specs.declared.scenario.Scenario.{Scenario}
 use Rattle.hr_said.specs.declared.scenario.Block.{Block}
-use Rattle.hr_history.specs.declared.entry.Entry.{Entry}
 use Rattle.hr_history.specs.declared.entry.Event.{Event}
 use Rattle.hr_history.specs.declared.entry.Event.TheVariants as event
 use Rattle.hr_history.specs.declared.cause.CauseAt.{CauseAt}
-use Rattle.hr_history.specs.declared.phase.Phase.{Phase}
 use Rattle.hr_history.specs.declared.phase.Phase.TheVariants as phase
 use Rattle.hr_history.specs.History.{History}
-use Rattle.hr_history.specs.Transactions.{begun, session_of, submits, log, asks, phase_of, is_open, is_asked}
+use Rattle.hr_history.specs.Transactions.{begun, session_of, submits, log, asks, phase_of, is_asked}
 use Rattle.hr_history.specs.Faithful.{Begun, session_caller}
 use Rattle.hr_history.proofs.StepLemmas.{call_allowed}
 use Rattle.hr_records.specs.Kept.{Kept}
 use Rattle.hr_records.proofs.Options.{same_some, some_none}
-use Rattle.hr_records.proofs.Places.{same_or_not, if_same, if_other, numbered_born, numbered_more}
+use Rattle.hr_records.proofs.Places.{same_or_not, if_same, if_other, numbered_born}
 use Rattle.hr_records.proofs.Allowed.{begin_allowed, submit_allowed, may_go_on}
 use Rattle.hr_records.proofs.KeptLemmas.{kept, decided_asked}
 use Rattle.hr_records.proofs.RuleLemmas.{begun_before, by_rule}
 use Rattle.hr_records.proofs.ViewWords.{txn_born}
 use Rattle.hr_schedule.specs.declared.attempt.Try.{Try}
-use Rattle.hr_schedule.specs.Sessions.{IsLast}
 use Rattle.hr_schedule.specs.Tries.{try_after, tries_of, last_try}
 use Rattle.hr_schedule.specs.Scripts.{script, end_call}
 use Rattle.hr_schedule.proofs.TryLemmas.{last_is}
@@ -35,7 +32,7 @@ use Rattle.hr_scripted.specs.Scripted.{IsTry, IsNextOfScript}
 use Rattle.hr_scripted.proofs.NextCalls.{IsWithin}
 use Rattle.hr_scripted.proofs.CallLemmas.{AreRight}
 use Rattle.hr_scripted.proofs.BlockLemmas.{OfBlock, longer, whole}
-use Rattle.hr_scripted.proofs.TryLemmas.{SoFar, so_far, last_is_last, same_try, its_place, its_phase, of_its_block, tries, next_try, phases, statements, grown, its_txn, old_or_new, born, unborn, allowed, begins_it, WithinEnd, within_submit, within_ask, within_rollback}
+use Rattle.hr_scripted.proofs.TryLemmas.{SoFar, so_far, last_is_last, its_place, its_phase, of_its_block, phases, statements, grown, its_txn, old_or_new, unborn, allowed, begins_it, WithinEnd, within_submit, within_ask, within_rollback}
 use Rattle.hr_scripted.proofs.FrontLemmas.{was_ended, IsCalled, called_begin, called_submit, called_end, called_decide, called_refuse, called_as_before}
 
 -- The session's calls are those of its tries, and each try's are the first that its block says.

@@ -1,12 +1,11 @@
 -- How a session's tries stand, entry by entry.
-use Rattle.std.proofs.Common.{◌≡◌, ◌⊎◌, inl, inr, ℕ, zero, suc, ◌+◌, ◌<◌, ◌≤◌, Bool, true, false, cond, ◌==◌, ◌&&◌, not, nat_le, Option, Some, None, List, [], ◌∷◌, ◌++◌, length, length-append, refl, ap, sym, ◌∙◌, subst, arith}
+use Rattle.std.proofs.Common.{◌≡◌, ◌⊎◌, inl, inr, ℕ, zero, suc, ◌+◌, ◌<◌, ◌≤◌, Bool, true, false, cond, ◌&&◌, not, nat_le, Option, Some, None, List, [], ◌∷◌, ◌++◌, length, refl, ap, sym, ◌∙◌, subst, arith}
 use Rattle.std.specs.Prelude.{slice_get, is_some}
-use Rattle.std.proofs.lemmas.Bool.{and_parts, and_from, leb-true, leb-false}
+use Rattle.std.proofs.lemmas.Bool.{and_parts, leb-true, leb-false}
 use Rattle.hr_base.specs.Lists.{numbered, last_of}
 use Rattle.hr_rel.specs.declared.stmt.Stmt.{Stmt}
 use Rattle.hr_said.specs.declared.scenario.Scenario.{Scenario}
 use Rattle.hr_said.specs.declared.scenario.Block.{Block}
-use Rattle.hr_history.specs.declared.entry.Entry.{Entry}
 use Rattle.hr_history.specs.declared.entry.Event.{Event}
 use Rattle.hr_history.specs.declared.entry.Event.TheVariants as event
 use Rattle.hr_history.specs.declared.cause.CauseAt.{CauseAt}
@@ -19,8 +18,7 @@ use Rattle.hr_history.specs.Faithful.{Begun, has_open}
 use Rattle.hr_history.proofs.StepLemmas.{call_allowed}
 use Rattle.hr_records.specs.Kept.{Kept}
 use Rattle.hr_records.proofs.Options.{same_some, some_none}
-use Rattle.hr_records.proofs.Places.{same_or_not, if_same, if_other, numbered_born, numbered_front, numbered_more, numbered_end, numbered_some}
-use Rattle.hr_records.proofs.NumberSteps.{not_both}
+use Rattle.hr_records.proofs.Places.{same_or_not, if_same, if_other, numbered_born, numbered_front, numbered_more, numbered_end}
 use Rattle.hr_records.proofs.NumberLemmas.{phase_at_begin, submits_at_begin}
 use Rattle.hr_records.proofs.Closed.{phase_stands}
 use Rattle.hr_records.proofs.Allowed.{begin_allowed, none_open}
@@ -28,9 +26,8 @@ use Rattle.hr_records.proofs.KeptLemmas.{kept, decided_asked}
 use Rattle.hr_records.proofs.RuleLemmas.{begun_before, by_rule}
 use Rattle.hr_records.proofs.ViewWords.{txn_born}
 use Rattle.hr_schedule.specs.declared.attempt.Try.{Try}
-use Rattle.hr_schedule.specs.Sessions.{IsLast}
 use Rattle.hr_schedule.specs.Tries.{is_refused, try_after, tries_of, last_try}
-use Rattle.hr_schedule.specs.Scripts.{script, end_call, next_call_of}
+use Rattle.hr_schedule.specs.Scripts.{script, end_call}
 use Rattle.hr_schedule.proofs.TryLemmas.{try_txn, last_is}
 use Rattle.hr_scripted.specs.Scripted.{IsAgain, IsOfNext, IsTry, IsNextOfScript}
 use Rattle.hr_scripted.proofs.NextCalls.{IsBegin, IsWithin, shows, stmt_or_end}
