@@ -49,8 +49,8 @@ follow_ups f caller (e ∷ more) h follow none = (follow_ups f caller more h fol
 
 module _ (sc : Scenario) (nobody : sc.suspects ≡ []) where
   over_turn : (caller : ℕ) (call : Event) (a b : History) → IsTurn sc.f caller call a b → is_suspicion call ≡ false → HasNone is_suspicion a → HasNone is_suspicion b
-  over_turn caller call a b turn no none =
-      subst (HasNone is_suspicion) (sym turn.is) (follow_ups sc.f caller turn.more (record { caller = caller; event = call } ∷ a) turn.follows (none, no))
+  over_turn caller call a b turn calm none =
+      subst (HasNone is_suspicion) (sym turn.is) (follow_ups sc.f caller turn.more (record { caller = caller; event = call } ∷ a) turn.follows (none, calm))
 
   never_due : (h : History) → is_suspect_due sc h ≡ false
   never_due h = ap (λ (thresholds : List ℕ). is_reached (slice_get thresholds (suspects h)) (length (log h))) nobody
