@@ -1,7 +1,6 @@
 -- A run of a scenario that disturbs nothing is undisturbed, and what follows from that.
-use Rattle.std.proofs.Common.{◌≡◌, ◌⊎◌, inl, inr, ℕ, ◌+◌, ◌*◌, ◌<◌, ◌≤◌, Bool, true, false, cond, nat_le, ◌==◌, Option, Some, None, List, [], ◌∷◌, ◌++◌, length, refl, ap, sym, ◌∙◌, subst, arith}
+use Rattle.std.proofs.Common.{◌≡◌, inl, inr, ℕ, ◌*◌, ◌≤◌, Bool, true, false, cond, nat_le, ◌==◌, Option, Some, None, List, [], ◌∷◌, ◌++◌, length, refl, ap, sym, ◌∙◌, subst, arith}
 use Rattle.std.specs.Prelude.{slice_get, unwrap_or, is_none}
-use Rattle.std.specs.Option.{option_map}
 use Rattle.std.specs.List.{All}
 use Rattle.std.proofs.lemmas.Bool.{and_parts, leb-true, leb-false}
 use Rattle.std.proofs.lemmas.Option.{get_or_from_slice_get}
@@ -12,9 +11,7 @@ use Rattle.hr_faulty.specs.declared.script.Fault.{Fault}
 use Rattle.hr_faulty.specs.Told.{Scripted}
 use Rattle.hr_said.specs.declared.scenario.Scenario.{Scenario}
 use Rattle.hr_history.specs.declared.cause.Cause.{Cause}
-use Rattle.hr_history.specs.declared.cause.Cause.TheVariants as cause
 use Rattle.hr_history.specs.declared.cause.CauseAt.{CauseAt}
-use Rattle.hr_history.specs.declared.cause.CauseAt.TheVariants as at
 use Rattle.hr_history.specs.declared.entry.Entry.{Entry}
 use Rattle.hr_history.specs.declared.entry.Event.{Event}
 use Rattle.hr_history.specs.declared.entry.Event.TheVariants as event
@@ -23,9 +20,9 @@ use Rattle.hr_history.specs.declared.phase.Phase.TheVariants as phase
 use Rattle.hr_history.specs.declared.reply.Ending.{Ending}
 use Rattle.hr_history.specs.declared.reply.Ending.TheVariants as ending
 use Rattle.hr_history.specs.History.{History}
-use Rattle.hr_history.specs.Transactions.{phase_of, is_asked}
+use Rattle.hr_history.specs.Transactions.{phase_of}
 use Rattle.hr_history.specs.Replicas.{journal_of, call_at}
-use Rattle.hr_history.specs.Replies.{cause_told, refusal_of, ending_by, ending_of}
+use Rattle.hr_history.specs.Replies.{cause_told, refusal_of, ending_by}
 use Rattle.hr_history.specs.Rules.{due}
 use Rattle.hr_history.specs.Faithful.{Begun, is_begun}
 use Rattle.hr_records.proofs.Options.{same_some, some_none}

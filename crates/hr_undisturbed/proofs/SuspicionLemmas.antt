@@ -1,5 +1,5 @@
 -- Where nobody is to be suspected, the choices make no suspicion.
-use Rattle.std.proofs.Common.{◌≡◌, ℕ, Bool, true, false, Option, Some, None, List, [], ◌∷◌, ◌++◌, length, refl, ap, sym, ◌∙◌, subst}
+use Rattle.std.proofs.Common.{◌≡◌, ℕ, true, false, List, [], ◌∷◌, ◌++◌, length, refl, ap, sym, subst}
 use Rattle.std.specs.Prelude.{slice_get}
 use Rattle.hr_said.specs.declared.scenario.Scenario.{Scenario}
 use Rattle.hr_history.specs.declared.entry.Entry.{Entry}
