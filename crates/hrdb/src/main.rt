@@ -1,28 +1,16 @@
 //! HRDB: one database made of several unlike ones, of which some may answer wrongly.
 //!
-//! `hrdb step` reads a scenario on standard input, runs its session at all replicas, and writes the report on standard
-//! output.
+//! `hrdb step` reads a scenario on standard input, runs it, and writes the report on standard output.
 #![tactic(auto)]
 
 ghost use Rattle.std.specs.Prelude.{◌≡◌, ◌≢◌, ◌↔◌};
 
-mod fault;
-mod replay;
-mod status;
-#[cfg(test)]
-mod tests;
-mod top;
-mod worked;
-
-use fault::{exit_status, fault_of};
+use hr_command::{Status, exit_status, fault_of, top};
 use hr_io::{OpenGate, StdSink, StdSource};
-pub use status::Status;
 use std::alloc::AllocError;
 use std::io::ErrorKind;
 use std::process::ExitCode;
 use std::{env, io};
-pub use top::{run, top};
-pub use worked::{empty_commit, insert_and_select, one_replica};
 
 fn main(rt: HostRuntime) -> ExitCode {
     let status = match words(&rt) {

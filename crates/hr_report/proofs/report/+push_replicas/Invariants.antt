@@ -1,5 +1,0 @@
-use Rattle.std.proofs.Common.{length}
-use Rattle.hr_report.proofs.report.+push_replicas.Given as goal
-
-abbrev pub decreases-push_replicas : goal.decreases-push_replicas
-decreases-push_replicas l = length l.dumps.now

@@ -1,7 +1,0 @@
-use Rattle.std.proofs.Common.{string_bytes}
-use Rattle.hr_report.specs.Report.{block_text}
-use Rattle.hr_report.proofs.Steps.{each_more}
-use Rattle.hr_report.proofs.report.push_blocks.Goals as goal
-
-pub log-preserved : goal.log-preserved
-log-preserved c = each_more block_text c.args.log.now c.log.before c.index-log-before.result (string_bytes c.args.out.now) (string_bytes c.log.out) (string_bytes c.push_block.new.out) c.log-test.true c.index-log-before.is c.log.invariant c.in_ok-push_block.ensures

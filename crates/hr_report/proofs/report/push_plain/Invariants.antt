@@ -1,5 +1,0 @@
-use Rattle.std.proofs.Common.{◌≡◌, ◌++◌, take, string_bytes}
-use Rattle.hr_report.proofs.report.push_plain.Given as goal
-
-abbrev pub invariant-bytes : goal.invariant-bytes
-invariant-bytes l = string_bytes l.out ≡ string_bytes l.fn.out ++ take l.byte-index l.bytes

@@ -1,7 +1,0 @@
-//! The report of a run: its text, to the byte.
-#![tactic(auto)]
-
-mod answer;
-mod report;
-
-pub use report::report_text;

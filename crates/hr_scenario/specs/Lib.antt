@@ -1,5 +1,0 @@
-pub mod Lines
-pub mod Form
-pub mod Meaning
-pub mod Input
-pub mod Reading

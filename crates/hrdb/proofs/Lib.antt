@@ -1,3 +1,0 @@
-pub mod Dumps
-pub mod Streams
-pub mod WorkedRuns

@@ -1,4 +1,0 @@
-pub mod Replay
-pub mod Top
-pub mod Worked
-pub mod Told
