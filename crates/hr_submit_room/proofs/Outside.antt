@@ -5,7 +5,7 @@ use Rattle.std.specs.List.{list_any}
 use Rattle.std.proofs.lemmas.Bool.{or_parts}
 use Rattle.hr_base.specs.Lists.{when, first_some, last_of}
 use Rattle.hr_base.specs.Texts.{Text}
-use Rattle.hr_base.specs.declared.limits.TheConstants.{MAX_F, MAX_COLUMNS}
+use Rattle.hr_base.specs.declared.limits.TheConstants.{MAX_F, MAX_COLUMNS, MAX_SUBMITS}
 use Rattle.hr_rel.specs.declared.value.Value.{Value}
 use Rattle.hr_rel.specs.declared.answer.RunError.{RunError}
 use Rattle.hr_rel.specs.Database.{columns_of}
@@ -61,7 +61,7 @@ module _ (said : Said) (h : IsRoomySaid said) (out : said.inside ≡ inside.Outs
         begun = is.begun;
         none = is.none;
         counted = h.counted;
-        few = subst (λ (n : ℕ). (retries + 1) * n ≤ 4000) (sym none) (omega arith);
+        few = subst (λ (n : ℕ). (retries + 1) * n ≤ MAX_SUBMITS) (sym none) (omega arith);
         short = h.short;
         own = h.own;
       }

@@ -162,9 +162,6 @@ module _ (sc : Scenario) (h : History) (c q : ℕ) (begins : Begun sc.f (length 
     begin_grows : Fits sc q h (last_try sc.retries q h) → Grows sc q h begun_now
     begin_grows fits = elim (same_or_not session q) [ inl same ↦ this same | inr other ↦ that other ]
       where
-        next : Try
-        next = try_after sc.retries (last_try sc.retries q h) (λ u. phase_of u h) t
-
         this : session ≡ q → Grows sc q h begun_now
         this same =
             let x = try_after sc.retries (last_try sc.retries q h) (λ u. phase_of u h) t in

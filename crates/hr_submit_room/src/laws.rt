@@ -17,5 +17,6 @@ pub fn choices_are_scripted()
 /// In a scenario that was read the limits keep no session from its next statement: the history of a shepherd whose
 /// statements are those of the scripts has room for one more, wherever a session has one left.
 pub fn has_room()
-    ensures { (text : Text) (sc : Scenario) (h : History) → scenario_of text ≡ Ok sc → Begun sc.f (length sc.scripts) h → AreScripted sc h → HasRoom sc h }
+    ensures scripted { (text : Text) (sc : Scenario) (h : History) → scenario_of text ≡ Ok sc → Begun sc.f (length sc.scripts) h → AreScripted sc h → HasRoom sc h }
+    ensures chosen { (text : Text) (sc : Scenario) (choices : List Choice) (h : History) → scenario_of text ≡ Ok sc → Begun sc.f (length sc.scripts) h → Each (Chooses sc) choices [] h → HasRoom sc h }
 {}
