@@ -1,11 +1,11 @@
 //! The commands of HRDB, over any source and sink: what they read, what they write, and what a person is told of a run.
 #![tactic(auto)]
 
+mod command;
 mod fault;
 mod status;
-mod top;
 
+pub use command::{run, top};
 pub use fault::{Fault, exit_status, fault_of};
 pub use hr_reader::InputKind;
 pub use status::Status;
-pub use top::{run, top};
