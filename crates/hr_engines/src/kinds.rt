@@ -7,6 +7,8 @@ ghost use Rattle.hr_engine.specs.Rigorous.{Rigorous};
 ghost use Rattle.hr_parts.specs.Footprints.{table_parts};
 ghost use Rattle.hr_parts.specs.Keys.{key_parts};
 ghost use Rattle.hr_lock_engine.specs.Conflicts.{by_parts};
+ghost use Rattle.hr_lock_engine.specs.Lends.{store_of};
+ghost use Rattle.hr_range_engine.specs.Handed.{handed_by};
 ghost use Rattle.hr_engines.specs.Kinds.{by_kind};
 
 use crate::Engine;
@@ -29,5 +31,18 @@ pub fn journals(engine: &Engine<LockEngine<TableName, TableStore>, LockEngine<Sp
     match engine {
         Engine::Table(engine) => engine.journals(),
         Engine::Range(engine) => engine.journals(),
+    }
+}
+
+/// How many keys an engine has handed out in search of rows; it stands still at its last number. One that locks whole tables
+/// hands out none. Takes no memory.
+pub fn handed(
+    engine: &Engine<LockEngine<TableName, TableStore>, LockEngine<Span, RangeStore>>,
+) -> u64
+    ensures { result ≡ by_kind (λ t. 0) (λ r. handed_by (store_of r)) engine.now }
+{
+    match engine {
+        Engine::Table(_) => 0,
+        Engine::Range(engine) => engine.store().handed(),
     }
 }

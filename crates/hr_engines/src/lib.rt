@@ -5,4 +5,4 @@ mod engine;
 mod kinds;
 
 pub use engine::Engine;
-pub use kinds::{Engines, journals};
+pub use kinds::{Engines, handed, journals};

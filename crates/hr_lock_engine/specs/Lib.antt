@@ -1,3 +1,4 @@
 pub mod Conflicts
 pub mod Views
 pub mod Keeps
+pub mod Lends

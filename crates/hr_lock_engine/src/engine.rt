@@ -29,6 +29,8 @@ pub struct LockEngine<N: Locking, S: TxnStore<N>> {
 }
 
 impl<N: Locking, S: TxnStore<N>> LockEngine<N, S> {
+    ghost use Rattle.hr_lock_engine.specs.Lends.{store_of};
+
     /// An engine over a store in which nobody has written.
     pub fn new(alloc: Global, store: S) -> LockEngine<N, S>
         requires idle { (u t : ℕ) (k : ℤ) → S.wrote store u t k ≡ false }
@@ -40,6 +42,13 @@ impl<N: Locking, S: TxnStore<N>> LockEngine<N, S> {
             locks: LockTable::new(alloc),
             commits: 0,
         }
+    }
+
+    /// The store that it stands over.
+    pub fn store(&self) -> &S
+        ensures { result.now ≡ store_of self.now }
+    {
+        &self.store
     }
 
     /// Each journal that an engine stands for is exact, statements conflicting where the rows that they need meet, and

@@ -1,5 +1,6 @@
 pub mod Found
 pub mod Ends
+pub mod Changed
 pub mod Runs
 pub mod Looks
 pub mod Needs

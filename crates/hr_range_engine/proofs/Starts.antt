@@ -30,7 +30,7 @@ use Rattle.hr_range_engine.proofs.Found.{row_stands, belongs, elsewhere_at}
 above_itself : (a : ℤ) → int_lt a a ≡ true → ⊥
 above_itself a h = grind (arith, ints)
 
-none_above : (n : ℤ) (rows : List (List Value)) → list_all (comes_after n) rows ≡ true → find (has_key n) rows ≡ None
+pub none_above : (n : ℤ) (rows : List (List Value)) → list_all (comes_after n) rows ≡ true → find (has_key n) rows ≡ None
 none_above n [] h = refl
 none_above n (row ∷ rows) h =
     let parts = and_parts (comes_after n row) (list_all (comes_after n) rows) h in

@@ -1,2 +1,4 @@
 pub mod Shown
+pub mod Changed
 pub mod Laws
+pub mod Handed

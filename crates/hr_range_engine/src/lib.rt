@@ -6,6 +6,7 @@ mod engine;
 mod look;
 mod statement;
 mod store;
+mod write;
 
 pub use engine::{RangeEngine, range_engine};
 pub use store::RangeStore;

@@ -7,15 +7,17 @@ ghost use Rattle.hr_meaning.specs.SameAnswer.{SameAnswer};
 ghost use Rattle.hr_parts.specs.Parts.{covers, written};
 ghost use Rattle.hr_parts.specs.Keys.{key_parts};
 ghost use Rattle.hr_plan.specs.Needs.{parts_of};
+ghost use Rattle.hr_store.specs.Store.{cell_at};
 ghost use Rattle.hr_lock_engine.specs.Views.{IsView, AreFree, Sees, SameSeen, OthersSee, WroteWithin, NoMoreWrote};
 ghost use Rattle.hr_range_engine.specs.Shown.{IsOf, committed_base, seen_by, wrote_by, changed_in};
 
 use crate::look::{look, look_all};
+use crate::write::put_changes;
 use hr_engine::TxnId;
 use hr_locks::{Mode, Need};
 use hr_machine::Machine;
 use hr_plan::Span;
-use hr_rel::{Answer, Row, Stmt, TryCopy};
+use hr_rel::{Answer, Row, Stmt};
 use hr_store::Store;
 use std::alloc::{AllocError, Global};
 
@@ -64,7 +66,8 @@ pub fn read(
     Ok(answer)
 }
 
-/// Runs a statement that may change rows in this interval alone. An error is want of memory, and then nothing has changed.
+/// Runs a statement that may change rows in this interval alone, and writes where its transaction sees another row than before
+/// and nowhere else. An error is want of memory, and then nothing has changed.
 pub fn change(
     alloc: Global,
     machine: &mut Machine,
@@ -82,6 +85,7 @@ pub fn change(
     ensures answer { IfOk result (λ answer. (db : Database) → IsView (committed_base machine.old.catalog store.old) (seen_by store.old txn) db → SameAnswer (exec db stmt.now).answer answer) }
     ensures after { OnOk result ((db : Database) → IsView (committed_base machine.old.catalog store.old) (seen_by store.old txn) db → Sees (seen_by store.new) txn (exec db stmt.now).after) }
     ensures wrote { OnOk result (WroteWithin txn (key_parts stmt.now) (wrote_by store.old) (wrote_by store.new)) }
+    ensures untouched { OnOk result ((t : ℕ) (k : ℤ) → seen_by store.new txn t k ≡ seen_by store.old txn t k → cell_at store.new t k ≡ cell_at store.old t k) }
     ensures others { OthersSee txn (seen_by store.old) (seen_by store.new) }
     ensures base { committed_base machine.new.catalog store.new ≡ committed_base machine.old.catalog store.old }
     ensures err { OnErr result (SameSeen (seen_by store.old) (seen_by store.new)) }
@@ -89,8 +93,8 @@ pub fn change(
 {
     let keys = look(alloc, machine, store, txn, span)?;
     let answer = run_on(machine, stmt)?;
-    let rows = rows_in(alloc, machine, span.table)?;
-    store.change(alloc, txn, span.table, rows, &keys)?;
+    let rows = rows_of(machine, span.table);
+    put_changes(alloc, store, txn, span.table, rows, &keys)?;
     Ok(answer)
 }
 
@@ -105,12 +109,12 @@ fn run_on(machine: &mut Machine, stmt: &Stmt) -> Result<Answer, AllocError>
     Ok(answer)
 }
 
-// Copies of the rows of a table; none of one that isn't there.
-fn rows_in(alloc: Global, machine: &Machine, table: u32) -> Result<Vec<Row>, AllocError>
-    ensures { IfOk result (λ rows. rows.items ≡ rows_of machine.now table) }
+// The rows of a table; none of one that isn't there.
+fn rows_of(machine: &Machine, table: u32) -> &[Row]
+    ensures { result.now ≡ rows_of machine.now table }
 {
     match machine.rows().as_slice().get(table as usize) {
-        Some(rows) => Ok(rows.try_copy(alloc)?.into_vec()),
-        None => Ok(Vec::new(alloc)),
+        Some(rows) => rows.as_slice(),
+        None => &[],
     }
 }

@@ -2,7 +2,6 @@
 ghost use Rattle.std.specs.Prelude.{◌≡◌, ℕ, ℤ, [], ◌∷◌, true, false, length, replicate, IfOk};
 ghost use Rattle.hr_base.specs.Counters.{shown};
 ghost use Rattle.hr_rel.specs.Holds.{IsSound, IsOrdered, holds};
-ghost use Rattle.hr_store.specs.Store.{handed_of};
 ghost use Rattle.hr_range_engine.specs.Shown.{IsOf, committed_base, seen_by, wrote_by};
 ghost use Rattle.hr_range_engine.specs.Laws.{unwritten_is_committed};
 
@@ -29,6 +28,8 @@ pub struct RangeStore {
 }
 
 impl RangeStore {
+    ghost use Rattle.hr_range_engine.specs.Handed.{handed_by};
+
     /// A store of copies of these rows, all of them committed. An error is want of memory.
     pub fn new(alloc: Global, catalog: &Catalog, rows: &Rows) -> Result<RangeStore, AllocError>
         requires sound { IsSound catalog.now }
@@ -44,7 +45,7 @@ impl RangeStore {
 
     /// How many keys were handed out since the start; it stands still at its last number. Takes no memory.
     pub fn handed(&self) -> u64
-        ensures { result ≡ handed_of self.now.store }
+        ensures { result ≡ handed_by self.now }
     {
         self.store.handed()
     }

@@ -1,1 +1,10 @@
-
+mod SoFar
+mod Refusals
+mod FormLemmas
+mod HeadLemmas
+mod TableLemmas
+mod RowLemmas
+mod FaultLemmas
+mod SessionLemmas
+mod ScheduleLemmas
+mod ReadLemmas

@@ -1,10 +1,9 @@
 -- What an engine, and a backend that has it behind a script, tells by what it stands for.
-use Rattle.std.proofs.Common.{◌≡◌, ℕ, Bool, true, List, ◌∷◌, length, refl, ap, ◌∙◌, sym, subst}
-use Rattle.std.specs.Prelude.{IsTrue}
+use Rattle.std.proofs.Common.{◌≡◌, ℕ, Bool, true, List, ◌∷◌, refl, ap, ◌∙◌, sym, subst}
+use Rattle.std.specs.Prelude.{IsTrue, IfOk, Result, Ok, Err}
 use Rattle.hr_rel.specs.declared.stmt.Stmt.{Stmt}
 use Rattle.hr_rel.specs.Database.{Database}
 use Rattle.hr_engine.specs.Journal.{Journal}
-use Rattle.hr_engine.specs.Base.{base}
 use Rattle.hr_engine.specs.Backend.{Standing}
 use Rattle.hr_locks.specs.declared.need.Need.{Need}
 use Rattle.hr_locks.specs.Table.{Table}
@@ -25,7 +24,7 @@ use Rattle.hr_faulty.specs.MakeTells.{one_make}
 use Rattle.hr_faulty.specs.Wraps.{Wraps}
 use Rattle.hr_forms.specs.declared.line.EngineKind.{EngineKind}
 use Rattle.hr_forms.specs.declared.line.EngineKind.TheVariants as kind
-use Rattle.hr_schedule.specs.Claims.{Conflict, TableRows, IsTold}
+use Rattle.hr_schedule.specs.Claims.{TableRows, IsTold}
 use Rattle.hr_step.specs.Run.{locking}
 use Rattle.hr_step.specs.Within.{kind_number, IsOfKind, IsBehind, IsKept}
 
@@ -67,3 +66,24 @@ backend_shows stands make committed script calls lost rows keeps is k named star
 pub both_honest : {T R : Type 0} (e : Engine T R) → by_kind (λ t. true) (λ r. true) e ≡ true
 both_honest (engine.Table t) = refl
 both_honest (engine.Range r) = refl
+
+-- a kind that is this one
+pub of_kind : (k j : EngineKind) (rest : List ℕ) → j ≡ k → IsOfKind j (kind_number k ∷ rest)
+of_kind k j rest e = (rest, ap (λ (i : EngineKind). kind_number i ∷ rest) (sym e))
+
+-- an engine of a kind, behind a script
+pub is_behind : (k j : EngineKind) (script named : List Fault) (within made : List ℕ) → IsOfKind k within → made ≡ make_over within script → k ≡ j → script ≡ named → IsBehind j named made
+is_behind k j script named within made of_k is kinds scripts =
+    (of_k.0, is ∙ ap (λ (m : List ℕ). make_over m script) of_k.1 ∙ ap (λ (i : EngineKind). make_over (kind_number i ∷ of_k.0) script) kinds ∙ ap (λ (s : List Fault). make_over (kind_number j ∷ of_k.0) s) scripts)
+
+-- rows that one of two engines has committed, behind a script
+pub rows_shown : {T R F : Type 0} (make_t : T → List ℕ) (make_r : R → List ℕ) (stands_t : T → Standing) (stands_r : R → Standing) (base_t : T → Database) (base_r : R → Database)
+    → ((t : T) (start : Database) (journal : Journal) → stands_t t start journal → IsKept (by_parts table_parts) (base_t t) start journal)
+    → ((r : R) (start : Database) (journal : Journal) → stands_r r start journal → IsKept (by_parts key_parts) (base_r r) start journal)
+    → (e : Engine T R) (script : List Fault) (calls : ℕ) (lost : Bool) (o : Result TableRows F) → IfOk o (λ rows. rows ≡ (by_kind base_t base_r e).tables)
+    → IfOk o (λ rows. (k : EngineKind) (named : List Fault) (start : Database) (journal : Journal) → IsBehind k named (make_over (make_of make_t make_r e) script)
+    → Wraps (λ since calls. MatchKind e (λ t. stands_t t since calls) (λ r. stands_r r since calls)) script calls lost start journal → IsTold (locking k) named start journal rows)
+rows_shown make_t make_r stands_t stands_r base_t base_r keeps_t keeps_r e script calls lost (Ok rows) is =
+    backend_shows (λ since calls. MatchKind e (λ t. stands_t t since calls) (λ r. stands_r r since calls)) (make_of make_t make_r e) (by_kind base_t base_r e) script calls lost rows
+    (engine_keeps make_t make_r stands_t stands_r base_t base_r keeps_t keeps_r e) is
+rows_shown make_t make_r stands_t stands_r base_t base_r keeps_t keeps_r e script calls lost (Err f) is = tt

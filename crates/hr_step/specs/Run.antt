@@ -14,6 +14,8 @@ use Rattle.hr_ledger.specs.Chronicle.{Chronicle, history_in}
 use Rattle.hr_schedule.specs.declared.attempt.Try.{Try}
 use Rattle.hr_schedule.specs.Tries.{tries_of}
 use Rattle.hr_schedule.specs.Claims.{Locking, TableRows, IsRun, Claims}
+use Rattle.hr_scripted.specs.Scripted.{CallsStand}
+use Rattle.hr_undisturbed.specs.Quiet.{IsQuiet, IsSmooth}
 use Rattle.hr_run_report.specs.Report.{report_text}
 
 -- the rows that a statement needs at each kind of engine: whole tables, or intervals of keys
@@ -30,8 +32,9 @@ abbrev pub tries_in : Scenario → Chronicle → List (List Try)
 tries_in sc kept = map (λ s. tries_of sc.retries s (history_in kept)) (one_to (length sc.scripts))
 
 -- The text tells of a run of the scenario: there is one kept history that its choices make, over engines of its kinds behind
--- its scripts, for which all holds that is claimed of such runs; and the text is the report of this history and of the rows
--- that these engines have committed.
+-- its scripts. All holds that is claimed of such runs, for the answers and for the rows. The calls of the sessions stand as
+-- their scripts say, in order and once. Where nothing disturbs the replicas, the run is smooth. The text is the report of this
+-- history and of the rows that these engines have committed.
 pub record IsReport (sc : Scenario) (text : Text) : Type 0 where
   pub kept : Chronicle
   pub dumps : List TableRows
@@ -39,4 +42,6 @@ pub record IsReport (sc : Scenario) (text : Text) : Type 0 where
   pub all : length dumps ≡ 2 * sc.f + 1
   pub run : IsRun locking sc (history_in kept) dumps
   pub claims : Claims locking sc (history_in kept) dumps
-  pub text : text ≡ report_text sc.kinds sc.catalog kept (tries_in sc kept) dumps
+  pub calls : CallsStand sc (history_in kept)
+  pub smooth : IsQuiet sc → IsSmooth sc.f (history_in kept)
+  pub is : text ≡ report_text sc.kinds sc.catalog kept (tries_in sc kept) dumps

@@ -1,10 +1,10 @@
 //! Runs a scenario, and reports the run: the shepherd over the two engines, each behind its script.
 #![tactic(auto)]
 
-mod backends;
 mod copy;
-mod dumps;
-mod report;
+mod engines;
+mod replica;
 mod run;
+mod step;
 
-pub use report::report;
+pub use step::report;

@@ -4,8 +4,13 @@ ghost use Rattle.hr_runnable.specs.Runnable.{IsRunnable};
 ghost use Rattle.hr_step.specs.Run.{IsReport};
 
 use crate::run::run;
+use hr_engines::Engines;
+use hr_faulty::Faulty;
 use hr_run_report::{report_text, tries};
 use hr_said::Scenario;
+use hr_schedule::laws::claims;
+use hr_scripted::laws::scripted;
+use hr_undisturbed::laws::runs;
 use std::alloc::{AllocError, Global};
 
 /// Runs a scenario and reports the run, with line feeds at the ends of the report's lines. An error is want of memory.
@@ -13,7 +18,10 @@ pub fn report(alloc: Global, scenario: &Scenario) -> Result<String, AllocError>
     requires runnable { IsRunnable scenario.now }
     ensures { IfOk result (λ text. IsReport scenario.now (string_bytes text)) }
 {
-    let ran = run(alloc, scenario)?;
+    claims();
+    scripted();
+    runs();
+    let ran = run::<Faulty<Engines>>(alloc, scenario)?;
     let tries = tries(alloc, &ran.driver.shepherd, scenario.retries)?;
     report_text(
         alloc,

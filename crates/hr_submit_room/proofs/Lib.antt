@@ -1,0 +1,9 @@
+mod Reached
+mod Sums
+mod Shares
+mod Steps
+mod Counts
+mod Made
+mod Said
+mod Outside
+mod Lines

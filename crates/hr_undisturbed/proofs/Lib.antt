@@ -1,0 +1,4 @@
+pub mod ToldLemmas
+pub mod LossLemmas
+pub mod SuspicionLemmas
+pub mod SmoothLemmas
