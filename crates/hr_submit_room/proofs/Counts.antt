@@ -1,5 +1,5 @@
 -- How many statements a history has, and that there is room for one more.
-use Rattle.std.proofs.Common.{◌≡◌, ℕ, suc, ◌+◌, ◌-◌, ◌*◌, ◌<◌, ◌≤◌, Bool, true, cond, nat_lt, Option, Some, None, unwrap_or, List, [], ◌∷◌, length, map, refl, ap, ◌∙◌, arith}
+use Rattle.std.proofs.Common.{◌≡◌, ℕ, suc, ◌+◌, ◌-◌, ◌*◌, ◌<◌, ◌≤◌, Bool, true, cond, nat_lt, Option, Some, None, unwrap_or, List, [], ◌∷◌, ◌++◌, length, map, refl, ap, sym, ◌∙◌, arith}
 use Rattle.std.specs.Prelude.{slice_get, option_and_then}
 use Rattle.std.proofs.lemmas.Bool.{and_from, lt-ltb}
 use Rattle.hr_base.specs.Lists.{numbered, when}
@@ -7,23 +7,30 @@ use Rattle.hr_base.specs.declared.limits.TheConstants.{MAX_SUBMITS, MAX_STATEMEN
 use Rattle.hr_rel.specs.declared.stmt.Stmt.{Stmt}
 use Rattle.hr_said.specs.declared.scenario.Scenario.{Scenario}
 use Rattle.hr_said.specs.declared.scenario.Block.{Block}
+use Rattle.hr_history.specs.declared.entry.Entry.{Entry}
 use Rattle.hr_history.specs.declared.entry.Event.{Event}
 use Rattle.hr_history.specs.declared.entry.Event.TheVariants as event
 use Rattle.hr_history.specs.declared.phase.Phase.{Phase}
 use Rattle.hr_history.specs.History.{History}
 use Rattle.hr_history.specs.Transactions.{submits, submitted}
 use Rattle.hr_history.specs.Faithful.{Begun}
-use Rattle.hr_records.proofs.Options.{on_some}
+use Rattle.hr_records.proofs.Options.{on_some, some_none}
 use Rattle.hr_records.proofs.Places.{got_within}
 use Rattle.hr_records.proofs.RuleLemmas.{begun_before}
 use Rattle.hr_schedule.specs.declared.attempt.Try.{Try}
 use Rattle.hr_schedule.specs.Tries.{last_try}
 use Rattle.hr_schedule.specs.Scripts.{may_submit, call_or_end, call_in, script, go_on, call_after, next_call_of}
-use Rattle.hr_submit_room.specs.Room.{IsScripted, AreScripted, IsWithin, HasRoom}
+use Rattle.hr_scripted.specs.Calls.{is_session_call}
+use Rattle.hr_scripted.specs.Scripted.{IsNextOfScript}
+use Rattle.hr_submit_room.specs.Room.{IsWithin, HasRoom}
 use Rattle.hr_submit_room.proofs.Reached.{total, all_reached, less_reached}
 use Rattle.hr_submit_room.proofs.Sums.{sum_from, sum_below, sum_less, sum_all}
-use Rattle.hr_submit_room.proofs.Shares.{sizes_of, block_size, come_to, share_of, share, IsTry, Fits, HasLeft, left_in, next_left, chained}
+use Rattle.hr_submit_room.proofs.Shares.{sizes_of, block_size, come_to, share_of, share, IsTry, Fits, HasLeft, left_in, next_left}
 use Rattle.hr_submit_room.proofs.Steps.{Grows, entry_grows, own_share}
+
+chained : {X Y : Type 0} (g : X → Option Y) (o : Option X) (y : Y) → option_and_then g o ≡ Some y → (x : X) × (o ≡ Some x) × (g x ≡ Some y)
+chained g None y e = absurd (some_none y (sym e))
+chained g (Some x) y e = (x, refl, e)
 
 -- how many statements the blocks of a script have
 abbrev pub script_size : List Block → ℕ
@@ -48,44 +55,51 @@ module _ (sc : Scenario) where
         let most = counted.most in
         record { fits = λ q. (grows q).fits; most = omega (arith, e, more, most) }
 
-    entry_counted : (e : Event) → Begun sc.f (length sc.scripts) h → ((q : ℕ) → Grows sc q h (record { caller = c; event = e } ∷ h)) → IsScripted sc e h → AreCounted (record { caller = c; event = e } ∷ h)
-    entry_counted (event.Submit txn index stmt) begins grows scripted =
-        let s = scripted.0 in
-        let left = next_left sc s txn index stmt h scripted.1 in
+    entry_counted : (e : Event) → Begun sc.f (length sc.scripts) h → ((q : ℕ) → Grows sc q h (record { caller = c; event = e } ∷ h))
+        → (is_session_call e ≡ true → IsNextOfScript sc record { caller = c; event = e } h) → AreCounted (record { caller = c; event = e } ∷ h)
+    entry_counted (event.Submit txn index stmt) begins grows next =
+        let by = next refl in
+        let s = by.session in
+        let left = next_left sc s txn index stmt h by.call in
         let now : History = record { caller = c; event = event.Submit txn index stmt } ∷ h in
         let within = left.within in
         let more = sum_less (share sc h) (share sc now) (λ q. (grows q).grown) s 1 sc.scripts (own_share sc h c s begins txn index stmt s left) within.0 (omega (arith, within.1)) in
         let most = counted.most in
         record { fits = λ q. (grows q).fits; most = omega (arith, more, most) }
-    entry_counted (event.Begin session txn) begins grows scripted = rests _ grows refl
-    entry_counted (event.AskCommit txn) begins grows scripted = rests _ grows refl
-    entry_counted (event.AskRollback txn) begins grows scripted = rests _ grows refl
-    entry_counted (event.Take r j) begins grows scripted = rests _ grows refl
-    entry_counted (event.Give r x) begins grows scripted = rests _ grows refl
-    entry_counted (event.Restarted r n) begins grows scripted = rests _ grows refl
-    entry_counted event.Suspect begins grows scripted = rests _ grows refl
-    entry_counted (event.Decide txn) begins grows scripted = rests _ grows refl
-    entry_counted (event.Refuse txn x) begins grows scripted = rests _ grows refl
-    entry_counted (event.Convict r x) begins grows scripted = rests _ grows refl
-    entry_counted (event.NewPrimary r) begins grows scripted = rests _ grows refl
-    entry_counted (event.Preempt r txn) begins grows scripted = rests _ grows refl
+    entry_counted (event.Begin session txn) begins grows next = rests _ grows refl
+    entry_counted (event.AskCommit txn) begins grows next = rests _ grows refl
+    entry_counted (event.AskRollback txn) begins grows next = rests _ grows refl
+    entry_counted (event.Take r j) begins grows next = rests _ grows refl
+    entry_counted (event.Give r x) begins grows next = rests _ grows refl
+    entry_counted (event.Restarted r n) begins grows next = rests _ grows refl
+    entry_counted event.Suspect begins grows next = rests _ grows refl
+    entry_counted (event.Decide txn) begins grows next = rests _ grows refl
+    entry_counted (event.Refuse txn x) begins grows next = rests _ grows refl
+    entry_counted (event.Convict r x) begins grows next = rests _ grows refl
+    entry_counted (event.NewPrimary r) begins grows next = rests _ grows refl
+    entry_counted (event.Preempt r txn) begins grows next = rests _ grows refl
 
-  pub counted : (h : History) → Begun sc.f (length sc.scripts) h → AreScripted sc h → AreCounted h
-  counted [] begins scripted = record { fits = λ q. tt; most = omega arith }
-  counted (e ∷ h) begins scripted =
+  -- each call of a session was, when it came, the next of its script
+  abbrev AreNext : History → Type 0
+  AreNext h = (newer : List Entry) (e : Entry) (before : History) → h ≡ newer ++ e ∷ before → is_session_call e.event ≡ true → IsNextOfScript sc e before
+
+  counted : (h : History) → Begun sc.f (length sc.scripts) h → AreNext h → AreCounted h
+  counted [] begins calls = record { fits = λ q. tt; most = omega arith }
+  counted (e ∷ h) begins calls =
       let earlier = begun_before sc.f (length sc.scripts) e h begins in
-      let before = counted h earlier scripted.0 in
-      entry_counted h e.caller before e.event earlier (λ q. entry_grows sc h e.caller q earlier e.event begins scripted.1 (before.fits q)) scripted.1
+      let before = counted h earlier (λ newer d older is. calls (e ∷ newer) d older (ap (λ (l : History). e ∷ l) is)) in
+      let next = calls [] e h refl in
+      entry_counted h e.caller before e.event earlier (λ q. entry_grows sc h e.caller q earlier e.event begins next (before.fits q)) next
 
   -- ---- room for one more
 
-  module _ (roomy : IsRoomy sc) (h : History) (begins : Begun sc.f (length sc.scripts) h) (scripted : AreScripted sc h) where
+  module _ (roomy : IsRoomy sc) (h : History) (begins : Begun sc.f (length sc.scripts) h) (calls : AreNext h) where
     -- what a session can submit in all
     abbrev allowance : ℕ → ℕ
     allowance s = (sc.retries + 1) * script_size (script sc s)
 
     all_fit : AreCounted h
-    all_fit = counted h begins scripted
+    all_fit = counted h begins calls
 
     within_allowance : (q : ℕ) (o : Option Try) → Fits sc q h o → share_of sc q h o ≤ allowance q
     within_allowance q None fits = omega arith

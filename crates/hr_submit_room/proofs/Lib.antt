@@ -3,7 +3,6 @@ mod Sums
 mod Shares
 mod Steps
 mod Counts
-mod Made
 mod Said
 mod Outside
 mod Lines

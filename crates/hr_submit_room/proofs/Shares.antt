@@ -1,33 +1,23 @@
 -- What a session can have submitted, from its last try; and how that grows with each entry.
-use Rattle.std.proofs.Common.{◌≡◌, ℕ, zero, suc, ◌+◌, ◌-◌, ◌<◌, ◌≤◌, Bool, true, false, cond, Option, Some, None, List, [], ◌∷◌, length, map, refl, ap, sym, ◌∙◌, subst, arith}
-use Rattle.std.specs.Prelude.{slice_get, option_and_then, unwrap_or, is_some}
-use Rattle.hr_base.specs.Lists.{numbered, when}
+use Rattle.std.proofs.Common.{◌≡◌, inl, inr, ℕ, zero, suc, ◌+◌, ◌-◌, ◌<◌, ◌≤◌, Bool, true, false, Option, Some, None, List, [], ◌∷◌, length, map, refl, ap, sym, ◌∙◌, subst, arith}
+use Rattle.std.specs.Prelude.{slice_get, unwrap_or}
+use Rattle.hr_base.specs.Lists.{numbered}
 use Rattle.hr_rel.specs.declared.stmt.Stmt.{Stmt}
 use Rattle.hr_said.specs.declared.scenario.Scenario.{Scenario}
 use Rattle.hr_said.specs.declared.scenario.Block.{Block}
 use Rattle.hr_history.specs.declared.entry.Event.{Event}
 use Rattle.hr_history.specs.declared.entry.Event.TheVariants as event
-use Rattle.hr_history.specs.declared.phase.Phase.{Phase}
-use Rattle.hr_history.specs.declared.phase.Phase.TheVariants as phase
 use Rattle.hr_history.specs.History.{History}
-use Rattle.hr_history.specs.Transactions.{begun, submits, phase_of}
-use Rattle.hr_history.specs.Replies.{reply_to, is_waiting}
+use Rattle.hr_history.specs.Transactions.{begun, submits}
 use Rattle.hr_records.proofs.Options.{On, some_none, same_some}
 use Rattle.hr_records.proofs.Places.{got_within, numbered_born}
 use Rattle.hr_schedule.specs.declared.attempt.Try.{Try}
-use Rattle.hr_schedule.specs.Tries.{try_after, last_try}
-use Rattle.hr_schedule.specs.Scripts.{may_submit, end_call, call_or_end, call_in, script, begin_next, go_on, call_after, next_call_of}
+use Rattle.hr_schedule.specs.Tries.{last_try}
+use Rattle.hr_schedule.specs.Scripts.{end_call, script, next_call_of}
+use Rattle.hr_scripted.proofs.NextCalls.{IsWithin, shows, stmt_or_end}
 use Rattle.hr_submit_room.proofs.Reached.{size_at, reached}
 
--- ---- the next call
-
-pub chained : {X Y : Type 0} (g : X → Option Y) (o : Option X) (y : Y) → option_and_then g o ≡ Some y → (x : X) × (o ≡ Some x) × (g x ≡ Some y)
-chained g None y e = absurd (some_none y (sym e))
-chained g (Some x) y e = (x, refl, e)
-
-when_some : {X : Type 0} (b : Bool) (x y : X) → when b x ≡ Some y → (b ≡ true) × (x ≡ y)
-when_some true x y e = (refl, same_some x y e)
-when_some false x y e = absurd (some_none y (sym e))
+-- ---- the blocks of a script
 
 abbrev pub sizes_of : List Block → List ℕ
 sizes_of script = map (λ block. length block.stmts) script
@@ -101,43 +91,22 @@ module _ (sc : Scenario) where
   -- ---- a statement that comes next is one of the last try's block
 
   module _ (s t index : ℕ) (stmt : Stmt) (h : History) where
-    begun_next : (last : Option Try) → begin_next sc s last h ≡ Some (event.Submit t index stmt) → HasLeft s t h
-    begun_next last e =
-        let got = when_some (is_some (numbered (script sc s) (try_after sc.retries last (λ t. phase_of t h) 0).block)) (event.Begin s (length (begun h) + 1)) (event.Submit t index stmt) e in
-        absurd (apart got.1)
-      where
-        apart : event.Begin s (length (begun h) + 1) ≡ event.Submit t index stmt → ⊥
-        apart f = cc
-
-    in_block : (x : Try) (block : Block) → last_try sc.retries s h ≡ Some x → numbered (script sc s) x.block ≡ Some block → (o : Option Stmt) → slice_get block.stmts (length (submits x.txn h)) ≡ o
-        → call_or_end o block.commits x.txn (length (submits x.txn h)) h ≡ Some (event.Submit t index stmt) → HasLeft s t h
-    in_block x block latest at None there e = absurd (ends block.commits e)
-      where
-        ends : (commits : Bool) → Some (end_call commits x.txn) ≡ Some (event.Submit t index stmt) → ⊥
-        ends true f = cc
-        ends false f = cc
-    in_block x block latest at (Some next) there e =
-        let n = length (submits x.txn h) in
-        let got = when_some (may_submit n h) (event.Submit x.txn (n + 1) next) (event.Submit t index stmt) e in
-        subst (λ (u : ℕ). HasLeft s u h) (ap txn_of got.1) (left_in s x h block next latest at there)
-
-    goes_next : (x : Try) → last_try sc.retries s h ≡ Some x → (p : Phase) → go_on sc s x p h ≡ Some (event.Submit t index stmt) → HasLeft s t h
-    goes_next x latest phase.Active e =
-        let n = length (submits x.txn h) in
-        let block = chained (call_in x.txn n h) (numbered (script sc s) x.block) (event.Submit t index stmt) e in
-        in_block x block.0 latest block.1 (slice_get (block.0).stmts n) refl block.2
-    goes_next x latest (phase.Asked n) e = absurd (some_none _ (sym e))
-    goes_next x latest (phase.Logged n) e = begun_next (Some x) e
-    goes_next x latest phase.RolledBack e = begun_next (Some x) e
-    goes_next x latest phase.Refused e = begun_next (Some x) e
-
-    after_next : (last : Option Try) → last_try sc.retries s h ≡ last → call_after sc s last h ≡ Some (event.Submit t index stmt) → HasLeft s t h
-    after_next None latest e = begun_next None e
-    after_next (Some x) latest e = goes_next x latest (phase_of x.txn h) e
-
-    waits_next : (b : Bool) → cond b None (call_after sc s (last_try sc.retries s h) h) ≡ Some (event.Submit t index stmt) → HasLeft s t h
-    waits_next true e = absurd (some_none _ (sym e))
-    waits_next false e = after_next (last_try sc.retries s h) refl e
-
     pub next_left : next_call_of sc s h ≡ Some (event.Submit t index stmt) → HasLeft s t h
-    next_left e = waits_next (is_waiting (reply_to s h)) e
+    next_left e = elim (shows sc s h (event.Submit t index stmt) e) [ inl begin ↦ absurd (no_begin begin.is) | inr within ↦ of_block within ]
+      where
+        no_begin : event.Begin s (length (begun h) + 1) ≡ event.Submit t index stmt → ⊥
+        no_begin is = cc
+
+        no_end : (commits : Bool) (u : ℕ) → end_call commits u ≡ event.Submit t index stmt → ⊥
+        no_end true u is = cc
+        no_end false u is = cc
+
+        of_block : IsWithin sc s h (event.Submit t index stmt) → HasLeft s t h
+        of_block w =
+            let x = w.last in
+            let block = w.block in
+            let n = length (submits x.txn h) in
+            elim (stmt_or_end (slice_get block.stmts n) block.commits x.txn n h (event.Submit t index stmt) w.call) [
+              | inl one ↦ subst (λ (u : ℕ). HasLeft s u h) (ap txn_of one.2) (left_in s x h block one.0 w.is_last w.there one.1)
+              | inr end ↦ absurd (no_end block.commits x.txn end.1)
+            ]

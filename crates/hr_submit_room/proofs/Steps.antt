@@ -17,7 +17,8 @@ use Rattle.hr_schedule.specs.declared.attempt.Try.{Try}
 use Rattle.hr_schedule.specs.Tries.{is_refused, try_after, tries_of, last_try}
 use Rattle.hr_schedule.specs.Scripts.{script}
 use Rattle.hr_schedule.proofs.TryLemmas.{last_is, try_txn}
-use Rattle.hr_submit_room.specs.Room.{IsScripted}
+use Rattle.hr_scripted.specs.Calls.{is_session_call}
+use Rattle.hr_scripted.specs.Scripted.{IsNextOfScript}
 use Rattle.hr_submit_room.proofs.Reached.{size_at, reached, one_reached, again_reached, next_reached}
 use Rattle.hr_submit_room.proofs.Shares.{sizes_of, come_to, share_of, share, IsTry, Fits, HasLeft, next_left}
 
@@ -191,20 +192,21 @@ module _ (sc : Scenario) (h : History) (c q : ℕ) (begins : Begun sc.f (length 
   same_grows : (now : History) → Fits sc q h (last_try sc.retries q h) → Fits sc q now (last_try sc.retries q now) → share sc now q ≡ share sc h q → Grows sc q h now
   same_grows now fits then e = record { fits = then; grown = omega (arith, e) }
 
-  pub entry_grows : (e : Event) → Begun sc.f (length sc.scripts) (record { caller = c; event = e } ∷ h) → IsScripted sc e h → Fits sc q h (last_try sc.retries q h)
+  pub entry_grows : (e : Event) → Begun sc.f (length sc.scripts) (record { caller = c; event = e } ∷ h) → (is_session_call e ≡ true → IsNextOfScript sc record { caller = c; event = e } h)
+      → Fits sc q h (last_try sc.retries q h)
       → Grows sc q h (record { caller = c; event = e } ∷ h)
-  entry_grows (event.Begin session txn) b scripted fits =
+  entry_grows (event.Begin session txn) b next fits =
       let a = begin_allowed sc.f (length sc.scripts) c h session txn (call_allowed sc.f (length sc.scripts) record { caller = c; event = event.Begin session txn } h b refl) in
       begin_grows session txn a.0 fits
-  entry_grows (event.Submit txn index stmt) b scripted fits = submit_grows txn index stmt scripted.0 (next_left sc scripted.0 txn index stmt h scripted.1) fits
-  entry_grows (event.AskCommit txn) b scripted fits = same_grows _ fits fits refl
-  entry_grows (event.AskRollback txn) b scripted fits = same_grows _ fits fits refl
-  entry_grows (event.Take r j) b scripted fits = same_grows _ fits fits refl
-  entry_grows (event.Give r x) b scripted fits = same_grows _ fits fits refl
-  entry_grows (event.Restarted r n) b scripted fits = same_grows _ fits fits refl
-  entry_grows event.Suspect b scripted fits = same_grows _ fits fits refl
-  entry_grows (event.Decide txn) b scripted fits = same_grows _ fits fits refl
-  entry_grows (event.Refuse txn x) b scripted fits = same_grows _ fits fits refl
-  entry_grows (event.Convict r x) b scripted fits = same_grows _ fits fits refl
-  entry_grows (event.NewPrimary r) b scripted fits = same_grows _ fits fits refl
-  entry_grows (event.Preempt r txn) b scripted fits = same_grows _ fits fits refl
+  entry_grows (event.Submit txn index stmt) b next fits = let by = next refl in submit_grows txn index stmt by.session (next_left sc by.session txn index stmt h by.call) fits
+  entry_grows (event.AskCommit txn) b next fits = same_grows _ fits fits refl
+  entry_grows (event.AskRollback txn) b next fits = same_grows _ fits fits refl
+  entry_grows (event.Take r j) b next fits = same_grows _ fits fits refl
+  entry_grows (event.Give r x) b next fits = same_grows _ fits fits refl
+  entry_grows (event.Restarted r n) b next fits = same_grows _ fits fits refl
+  entry_grows event.Suspect b next fits = same_grows _ fits fits refl
+  entry_grows (event.Decide txn) b next fits = same_grows _ fits fits refl
+  entry_grows (event.Refuse txn x) b next fits = same_grows _ fits fits refl
+  entry_grows (event.Convict r x) b next fits = same_grows _ fits fits refl
+  entry_grows (event.NewPrimary r) b next fits = same_grows _ fits fits refl
+  entry_grows (event.Preempt r txn) b next fits = same_grows _ fits fits refl

@@ -1,9 +1,9 @@
--- Histories whose statements are those of a scenario's scripts, and whether there is room in them for the next one.
-use Rattle.std.specs.Prelude.{◌≡◌, ℕ, ◌+◌, false, Option, Some, option_and_then, [], ◌∷◌, length, slice_get, ⊤}
+-- Whether there is room in a history for the next statement of a scenario's scripts.
+use Rattle.std.specs.Prelude.{◌≡◌, ℕ, ◌+◌, false, Option, Some, option_and_then, List, length, slice_get}
 use Rattle.hr_base.specs.Lists.{numbered}
 use Rattle.hr_rel.specs.declared.stmt.Stmt.{Stmt}
 use Rattle.hr_said.specs.declared.scenario.Scenario.{Scenario}
-use Rattle.hr_history.specs.declared.entry.Event.{Event}
+use Rattle.hr_said.specs.declared.scenario.Choice.{Choice}
 use Rattle.hr_history.specs.declared.entry.Event.TheVariants as event
 use Rattle.hr_history.specs.declared.phase.Phase.TheVariants as phase
 use Rattle.hr_history.specs.History.{History}
@@ -14,15 +14,9 @@ use Rattle.hr_schedule.specs.Tries.{last_try}
 use Rattle.hr_schedule.specs.Scripts.{script, next_call_of}
 
 module _ (sc : Scenario) where
-  -- what is submitted is the next statement of a session's script
-  abbrev pub IsScripted : Event → History → Type 0
-  IsScripted (event.Submit txn index stmt) before = (s : ℕ) × (next_call_of sc s before ≡ Some (event.Submit txn index stmt))
-  IsScripted _ before = ⊤
-
-  -- each statement of the history was so, where it stands
-  abbrev pub AreScripted : History → Type 0
-  AreScripted [] = ⊤
-  AreScripted (e ∷ before) = AreScripted before × IsScripted e.event before
+  -- the scenario with these choices as its schedule
+  abbrev pub scheduled : List Choice → Scenario
+  scheduled choices = record sc { schedule = Some choices }
 
   -- the statement that comes next in a session's try, where its block has one left
   abbrev pub statement_left : ℕ → Try → History → Option Stmt
