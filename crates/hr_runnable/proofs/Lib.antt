@@ -1,5 +1,6 @@
 mod SoFar
-mod Refusals
+pub mod Refusals
+pub mod LineLemmas
 mod FormLemmas
 mod HeadLemmas
 mod TableLemmas

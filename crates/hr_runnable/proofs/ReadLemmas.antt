@@ -1,33 +1,24 @@
 -- Whatever lines say is good; and what is said once all of them are read can be run.
-use Rattle.std.proofs.Common.{◌≡◌, ℕ, zero, suc, ◌+◌, ◌*◌, ◌≤◌, Bool, true, false, not, cond, ◌||◌, ◌==◌, nat_le, nat_lt, Option, Some, None, unwrap_or, Result, Ok, Err, List, [], ◌∷◌, length, refl, subst, arith}
+use Rattle.std.proofs.Common.{◌≡◌, ℕ, zero, suc, ◌+◌, ◌*◌, ◌≤◌, Bool, true, false, ◌==◌, nat_le, unwrap_or, Ok, List, [], ◌∷◌, length, refl, subst, arith}
 use Rattle.std.specs.List.{list_all}
-use Rattle.std.proofs.lemmas.Bool.{and_parts, or_parts, leb-true, ltb-true, ltb-false}
+use Rattle.std.proofs.lemmas.Bool.{and_parts, leb-true, ltb-true}
 use Rattle.hr_base.specs.Texts.{Text}
-use Rattle.hr_base.specs.declared.limits.TheConstants.{MAX_SCENARIO_BYTES}
-use Rattle.hr_line.specs.Bytes.{content_of, is_skipped}
-use Rattle.hr_line.specs.declared.bytes.LineFault.{LineFault}
-use Rattle.hr_lines.specs.Lines.{lines_of}
 use Rattle.hr_forms.specs.Forms.{form_of}
 use Rattle.hr_forms.specs.declared.line.LineForm.{LineForm}
 use Rattle.hr_forms.specs.declared.line.LineForm.TheVariants as form
-use Rattle.hr_said.specs.declared.error.InputKind.{InputKind}
-use Rattle.hr_said.specs.declared.error.InputKind.TheVariants as kind
-use Rattle.hr_said.specs.declared.said.Inside.{Inside}
-use Rattle.hr_said.specs.declared.said.Inside.TheVariants as inside
 use Rattle.hr_said.specs.declared.said.Said.{Said}
 use Rattle.hr_said.specs.declared.scenario.Choice.{Choice}
 use Rattle.hr_said.specs.declared.scenario.Choice.TheVariants as choice
 use Rattle.hr_said.specs.declared.scenario.Scenario.{Scenario}
-use Rattle.hr_said.specs.Said.{nothing, scenario}
+use Rattle.hr_said.specs.Said.{scenario}
 use Rattle.hr_said.specs.Said as saying
 use Rattle.hr_schedule.specs.Choices.{choices}
 use Rattle.hr_driver.specs.Whole.{IsThere, AreThere}
-use Rattle.hr_reader.specs.declared.error.InputError.{InputError}
-use Rattle.hr_reader.specs.Reading.{form_says, formed, standing, read_content, line_says, at_line, is_outside, read_on, read_lines, scenario_of}
-use Rattle.hr_records.proofs.Options.{On}
+use Rattle.hr_reader.specs.Reading.{form_says, scenario_of}
+use Rattle.hr_records.proofs.Options.{on_some}
 use Rattle.hr_runnable.specs.Runnable.{IsRunnable}
 use Rattle.hr_runnable.proofs.SoFar.{IsGood, is_of, nothing_good}
-use Rattle.hr_runnable.proofs.Refusals.{done_good}
+use Rattle.hr_runnable.proofs.LineLemmas.{KeptByLines, by_lines}
 use Rattle.hr_runnable.proofs.FormLemmas.{IsKeyed, form_keyed}
 use Rattle.hr_runnable.proofs.HeadLemmas.{version_good, liars_good, replicas_good, retries_good}
 use Rattle.hr_runnable.proofs.TableLemmas.{table_good, index_good}
@@ -52,26 +43,12 @@ module _ (said next : Said) (h : IsGood said) where
   form_good content form.Session keyed e = session_good said h next e
   form_good content form.Schedule keyed e = schedule_good said h next e
 
-  formed_good : (content : Text) (f : Option LineForm) → On IsKeyed f → formed said content f ≡ Ok next → IsGood next
-  formed_good content None keyed e = cc
-  formed_good content (Some f) keyed e = form_good content f keyed e
-
-  standing_good : (content : Text) (at : Inside) → said.inside ≡ at → standing said content at ≡ Ok next → IsGood next
-  standing_good content inside.Outside within e = formed_good content (form_of content) (form_keyed content) e
-  standing_good content inside.Session within e = session_line_good said h within next content e
-  standing_good content inside.Schedule within e = schedule_line_good said h within next content e
-
-  skipped_good : (content : Text) (b : Bool) → cond b (Ok said) (standing said content said.inside) ≡ Ok next → IsGood next
-  skipped_good content true e = done_good said next h e
-  skipped_good content false e = standing_good content said.inside refl e
-
-  content_good : (r : Result Text LineFault) → read_content said r ≡ Ok next → IsGood next
-  content_good (Ok content) e = skipped_good content (is_skipped content) e
-  content_good (Err f) e = cc
-
-  line_good : (line : Text) → line_says said line ≡ Ok next → IsGood next
-  unfolding line_says
-  line_good line e = content_good (content_of line) e
+kept_by_lines : KeptByLines IsGood
+kept_by_lines = record {
+  outside = λ said next content f out is e h. form_good said next h content f (on_some IsKeyed (form_of content) f is (form_keyed content)) e;
+  session = λ said next content within e h. session_line_good said h within next content e;
+  schedule = λ said next content within e h. schedule_line_good said h within next content e;
+}
 
 -- ---- the whole
 
@@ -112,26 +89,5 @@ said_runs said h late = record {
       (scheduled_there (length said.scripts) (length said.faults) (said.part == 8) said.choices h.schedule.there);
 }
 
-module _ (sc : Scenario) where
-  whole_runs : (said : Said) (line : ℕ) (b : Bool) → (nat_lt said.part 3 || not (is_outside said.inside)) ≡ b → IsGood said
-      → cond b (Err (at_line (line + 1) kind.Unended)) (Ok (scenario said)) ≡ Ok sc → IsRunnable sc
-  whole_runs said line true is h e = cc
-  whole_runs said line false is h e =
-      let same : scenario said ≡ sc = cc in
-      subst IsRunnable same (said_runs said h (ltb-false said.part 3 (or_parts (nat_lt said.part 3) (not (is_outside said.inside)) is).0))
-
-  read_runs : (line : ℕ) (r : Result Said InputKind) (rest : Said → Result Scenario InputError) → ((next : Said) → r ≡ Ok next → rest next ≡ Ok sc → IsRunnable sc) → read_on r line rest ≡ Ok sc → IsRunnable sc
-  read_runs line (Ok next) rest runs e = runs next refl e
-  read_runs line (Err k) rest runs e = cc
-
-  lines_run : (lines : List Text) (said : Said) (n : ℕ) → IsGood said → read_lines said n lines ≡ Ok sc → IsRunnable sc
-  lines_run [] said n h e = whole_runs said n (nat_lt said.part 3 || not (is_outside said.inside)) refl h e
-  lines_run (text ∷ lines) said n h e =
-      read_runs (n + 1) (line_says said text) (λ next. read_lines next (n + 1) lines) (λ next says rest. lines_run lines next (n + 1) (line_good said next h text says) rest) e
-
-  text_runs : (text : Text) (b : Bool) → cond b (Err (at_line 0 kind.TooLong)) (read_lines nothing 0 (lines_of text)) ≡ Ok sc → IsRunnable sc
-  text_runs text true e = cc
-  text_runs text false e = lines_run (lines_of text) nothing 0 nothing_good e
-
 pub every_scenario_runs : (text : Text) (sc : Scenario) → scenario_of text ≡ Ok sc → IsRunnable sc
-every_scenario_runs text sc e = text_runs sc text (nat_lt MAX_SCENARIO_BYTES (length text)) e
+every_scenario_runs text sc e = by_lines IsGood kept_by_lines IsRunnable said_runs sc text nothing_good e

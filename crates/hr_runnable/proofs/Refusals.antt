@@ -12,19 +12,23 @@ use Rattle.hr_runnable.proofs.SoFar.{IsGood}
 
 -- ---- what comes of a line
 
--- a line that isn't refused leaves what it says
-pub unless_good : (refusal : Option InputKind) (x next : Said) → (refusal ≡ None → IsGood x) → unless refusal x ≡ Ok next → IsGood next
-unless_good None x next h e = subst IsGood same (h refl)
-  where
-    same : x ≡ next
-    same = cc
-unless_good (Some k) x next h e = cc
+module _ (Holds : Said → Type 0) where
+  pub done_keeps : (x next : Said) → Holds x → ◌≡◌ {A = Result Said InputKind} (Ok x) (Ok next) → Holds next
+  done_keeps x next h e = subst Holds same h
+    where
+      same : x ≡ next
+      same = cc
+
+  -- a line that isn't refused leaves what it says
+  pub unless_keeps : (refusal : Option InputKind) (x next : Said) → (refusal ≡ None → Holds x) → unless refusal x ≡ Ok next → Holds next
+  unless_keeps None x next h e = done_keeps x next (h refl) e
+  unless_keeps (Some k) x next h e = cc
 
 pub done_good : (x next : Said) → IsGood x → ◌≡◌ {A = Result Said InputKind} (Ok x) (Ok next) → IsGood next
-done_good x next h e = subst IsGood same h
-  where
-    same : x ≡ next
-    same = cc
+done_good = done_keeps IsGood
+
+pub unless_good : (refusal : Option InputKind) (x next : Said) → (refusal ≡ None → IsGood x) → unless refusal x ≡ Ok next → IsGood next
+unless_good = unless_keeps IsGood
 
 -- ---- tests
 

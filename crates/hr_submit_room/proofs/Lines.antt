@@ -1,40 +1,35 @@
 -- Whatever lines say, there is room for the statements; so there is in a scenario that was read.
-use Rattle.std.proofs.Common.{◌≡◌, ℕ, zero, suc, ◌+◌, ◌<◌, ◌≤◌, Bool, true, false, cond, not, ◌||◌, nat_le, nat_lt, Option, Some, None, unwrap_or, Result, Ok, Err, List, [], ◌∷◌, ◌++◌, length, refl, subst, arith, le_trans, mul_comm, length-append}
+use Rattle.std.proofs.Common.{◌≡◌, ℕ, zero, suc, ◌+◌, ◌<◌, ◌≤◌, Bool, true, false, ◌||◌, nat_le, nat_lt, Option, Some, None, unwrap_or, Result, Ok, Err, List, [], ◌∷◌, ◌++◌, length, refl, subst, arith, le_trans, mul_comm, length-append}
 use Rattle.std.specs.Prelude.{slice_get}
 use Rattle.std.specs.List.{list_all}
 use Rattle.std.proofs.Math.Nat.{mul-le-mul_left}
 use Rattle.std.proofs.lemmas.Bool.{and_parts, or_parts, leb-true, leb-false, ltb-false}
 use Rattle.hr_base.specs.Lists.{numbered}
 use Rattle.hr_base.specs.Texts.{Text}
-use Rattle.hr_base.specs.declared.limits.TheConstants.{MAX_STATEMENTS, MAX_SUBMITS, MAX_SCENARIO_BYTES}
-use Rattle.hr_line.specs.Bytes.{content_of, is_skipped}
+use Rattle.hr_base.specs.declared.limits.TheConstants.{MAX_STATEMENTS, MAX_SUBMITS}
 use Rattle.hr_line.specs.Scripts.{script_form_of}
-use Rattle.hr_line.specs.declared.bytes.LineFault.{LineFault}
 use Rattle.hr_line.specs.declared.script.ScriptForm.{ScriptForm}
 use Rattle.hr_line.specs.declared.script.ScriptForm.TheVariants as script_form
-use Rattle.hr_lines.specs.Lines.{lines_of}
 use Rattle.hr_forms.specs.Choices.{schedule_form_of}
-use Rattle.hr_forms.specs.Forms.{form_of}
 use Rattle.hr_forms.specs.declared.choice.ScheduleForm.{ScheduleForm}
 use Rattle.hr_forms.specs.declared.choice.ScheduleForm.TheVariants as line_form
-use Rattle.hr_forms.specs.declared.line.LineForm.{LineForm}
 use Rattle.hr_said.specs.declared.error.InputKind.{InputKind}
 use Rattle.hr_said.specs.declared.error.InputKind.TheVariants as kind
-use Rattle.hr_said.specs.declared.said.Inside.{Inside}
 use Rattle.hr_said.specs.declared.said.Inside.TheVariants as inside
 use Rattle.hr_said.specs.declared.said.Said.{Said}
 use Rattle.hr_said.specs.declared.scenario.Block.{Block}
 use Rattle.hr_said.specs.declared.scenario.Scenario.{Scenario}
 use Rattle.hr_said.specs.Outcomes.{unless, goes_on}
-use Rattle.hr_said.specs.Said.{nothing, scenario, no_blocks}
+use Rattle.hr_said.specs.Said.{scenario, no_blocks}
 use Rattle.hr_said.specs.Schedule.{schedule_line_as}
 use Rattle.hr_sessions.specs.declared.statement.Read.{Read}
 use Rattle.hr_sessions.specs.Sessions.{end_session, end_refusal, begun, block, ended, submits_with_one, statement_refusal, statement_in, with_statement, add_statement, read_statement, line_as}
 use Rattle.hr_schedule.specs.Scripts.{script}
-use Rattle.hr_reader.specs.declared.error.InputError.{InputError}
-use Rattle.hr_reader.specs.Reading.{formed, standing, read_content, line_says, at_line, is_outside, read_on, read_lines, scenario_of}
+use Rattle.hr_reader.specs.Reading.{scenario_of}
+use Rattle.hr_runnable.proofs.Refusals.{passes}
+use Rattle.hr_runnable.proofs.LineLemmas.{KeptByLines, by_lines}
 use Rattle.hr_submit_room.proofs.Counts.{IsRoomy}
-use Rattle.hr_submit_room.proofs.Said.{is_short, are_short, all_size, AreRoomy, IsRoomySaid, nothing_roomy, passes, unless_roomy, done_roomy, scripts_end, blocks_end, short_scripts, short_blocks}
+use Rattle.hr_submit_room.proofs.Said.{is_short, are_short, all_size, AreRoomy, IsRoomySaid, nothing_roomy, unless_roomy, done_roomy, scripts_end, blocks_end, short_scripts, short_blocks}
 use Rattle.hr_submit_room.proofs.Outside.{form_roomy}
 
 -- ---- a line of a session
@@ -118,28 +113,14 @@ module _ (said : Said) (h : IsRoomySaid said) where
       now = record { begun = λ e. cc; none = h.none; counted = h.counted; few = h.few; short = h.short; own = h.own }
   schedule_roomy next (Some (line_form.Choices forms)) e = unless_roomy _ _ next (λ none. h) e
 
-  -- ---- any line
+-- ---- any line
 
-  formed_roomy : (next : Said) (content : Text) → said.inside ≡ inside.Outside → (f : Option LineForm) → formed said content f ≡ Ok next → IsRoomySaid next
-  formed_roomy next content out None e = cc
-  formed_roomy next content out (Some f) e = form_roomy said h out content next f e
-
-  standing_roomy : (next : Said) (content : Text) (at : Inside) → said.inside ≡ at → standing said content at ≡ Ok next → IsRoomySaid next
-  standing_roomy next content inside.Outside within e = formed_roomy next content within (form_of content) e
-  standing_roomy next content inside.Session within e = script_roomy within next content (script_form_of content) e
-  standing_roomy next content inside.Schedule within e = schedule_roomy next (schedule_form_of content) e
-
-  skipped_roomy : (next : Said) (content : Text) (b : Bool) → cond b (Ok said) (standing said content said.inside) ≡ Ok next → IsRoomySaid next
-  skipped_roomy next content true e = done_roomy said next h e
-  skipped_roomy next content false e = standing_roomy next content said.inside refl e
-
-  content_roomy : (next : Said) (r : Result Text LineFault) → read_content said r ≡ Ok next → IsRoomySaid next
-  content_roomy next (Ok content) e = skipped_roomy next content (is_skipped content) e
-  content_roomy next (Err f) e = cc
-
-  line_roomy : (next : Said) (line : Text) → line_says said line ≡ Ok next → IsRoomySaid next
-  unfolding line_says
-  line_roomy next line e = content_roomy next (content_of line) e
+kept_by_lines : KeptByLines IsRoomySaid
+kept_by_lines = record {
+  outside = λ said next content f out is e h. form_roomy said h out content next f e;
+  session = λ said next content within e h. script_roomy said h within next content (script_form_of content) e;
+  schedule = λ said next content within e h. schedule_roomy said h next (schedule_form_of content) e;
+}
 
 -- ---- the whole
 
@@ -173,25 +154,5 @@ said_roomy said h =
       short = λ s b x at. short_at (script (scenario said) s) b x (script_short said.scripts s h.short) at;
     }
 
-module _ (sc : Scenario) where
-  whole_roomy : (said : Said) (line : ℕ) (b : Bool) → IsRoomySaid said → cond b (Err (at_line (line + 1) kind.Unended)) (Ok (scenario said)) ≡ Ok sc → IsRoomy sc
-  whole_roomy said line true h e = cc
-  whole_roomy said line false h e =
-      let same : scenario said ≡ sc = cc in
-      subst IsRoomy same (said_roomy said h)
-
-  read_roomy_on : (line : ℕ) (r : Result Said InputKind) (rest : Said → Result Scenario InputError) → ((next : Said) → r ≡ Ok next → rest next ≡ Ok sc → IsRoomy sc) → read_on r line rest ≡ Ok sc → IsRoomy sc
-  read_roomy_on line (Ok next) rest so e = so next refl e
-  read_roomy_on line (Err k) rest so e = cc
-
-  lines_roomy : (lines : List Text) (said : Said) (n : ℕ) → IsRoomySaid said → read_lines said n lines ≡ Ok sc → IsRoomy sc
-  lines_roomy [] said n h e = whole_roomy said n (nat_lt said.part 3 || not (is_outside said.inside)) h e
-  lines_roomy (text ∷ lines) said n h e =
-      read_roomy_on (n + 1) (line_says said text) (λ next. read_lines next (n + 1) lines) (λ next says rest. lines_roomy lines next (n + 1) (line_roomy said h next text says) rest) e
-
-  text_roomy : (text : Text) (b : Bool) → cond b (Err (at_line 0 kind.TooLong)) (read_lines nothing 0 (lines_of text)) ≡ Ok sc → IsRoomy sc
-  text_roomy text true e = cc
-  text_roomy text false e = lines_roomy (lines_of text) nothing 0 nothing_roomy e
-
 pub every_scenario_is_roomy : (text : Text) (sc : Scenario) → scenario_of text ≡ Ok sc → IsRoomy sc
-every_scenario_is_roomy text sc e = text_roomy sc text (nat_lt MAX_SCENARIO_BYTES (length text)) e
+every_scenario_is_roomy text sc e = by_lines IsRoomySaid kept_by_lines IsRoomy (λ said h late. said_roomy said h) sc text nothing_roomy e

@@ -29,7 +29,8 @@ use Rattle.hr_sessions.specs.Sessions.{session_refusal}
 use Rattle.hr_reader.specs.Shaped.{rows_at}
 use Rattle.hr_reader.specs.Rows.{row_refusal, row_held, told_rows, add_row, row_to}
 use Rattle.hr_reader.specs.Reading.{form_says}
-use Rattle.hr_submit_room.proofs.Said.{AreRoomy, IsRoomySaid, no_fall, passes, unless_roomy, done_roomy, moved}
+use Rattle.hr_runnable.proofs.Refusals.{passes}
+use Rattle.hr_submit_room.proofs.Said.{AreRoomy, IsRoomySaid, no_fall, unless_roomy, done_roomy, moved}
 
 module _ (said : Said) (h : IsRoomySaid said) (out : said.inside ≡ inside.Outside) where
   -- ---- rows

@@ -1,9 +1,8 @@
 -- What holds of the statements that lines have said: there is room to submit each as often as it may be tried.
-use Rattle.std.proofs.Common.{◌≡◌, ℕ, ◌+◌, ◌*◌, ◌<◌, ◌≤◌, Bool, true, false, cond, not, ◌&&◌, ◌||◌, ◌==◌, nat_le, nat_lt, Option, Some, None, Result, Ok, List, [], ◌∷◌, ◌++◌, length, map, refl, sym, ◌∙◌, subst, arith}
+use Rattle.std.proofs.Common.{◌≡◌, ℕ, ◌+◌, ◌*◌, ◌<◌, ◌≤◌, Bool, true, false, cond, not, ◌&&◌, ◌||◌, ◌==◌, nat_le, nat_lt, Option, None, Result, Ok, List, [], ◌∷◌, ◌++◌, length, map, refl, sym, ◌∙◌, arith}
 use Rattle.std.specs.List.{list_all}
 use Rattle.std.proofs.lemmas.Bool.{and_from, and_parts, eqb-true, ltb-true, le-leb}
 use Rattle.std.proofs.lemmas.List.Folds.{list_all-append}
-use Rattle.hr_base.specs.Lists.{when, first_some}
 use Rattle.hr_base.specs.declared.limits.TheConstants.{MAX_STATEMENTS, MAX_SUBMITS}
 use Rattle.hr_said.specs.declared.error.InputKind.{InputKind}
 use Rattle.hr_said.specs.declared.said.Inside.{Inside}
@@ -14,6 +13,7 @@ use Rattle.hr_said.specs.declared.scenario.Block.{Block}
 use Rattle.hr_said.specs.Limits.{may_stand}
 use Rattle.hr_said.specs.Outcomes.{unless}
 use Rattle.hr_said.specs.Said.{nothing}
+use Rattle.hr_runnable.proofs.Refusals.{is_so, done_keeps, unless_keeps}
 use Rattle.hr_submit_room.proofs.Reached.{total}
 use Rattle.hr_submit_room.proofs.Counts.{script_size}
 
@@ -67,30 +67,15 @@ by_part last part false e = either (nat_lt last part) refl (and_parts (nat_le 3 
         omega (arith, same)
 
 pub no_fall : (last part : ℕ) → not (may_stand last part) ≡ false → last ≤ part
-no_fall last part e = by_part last part (nat_le part 3) (so (may_stand last part) e)
-  where
-    so : (b : Bool) → not b ≡ false → b ≡ true
-    so true f = refl
-    so false f = cc
-
-pub passes : (b : Bool) (k : InputKind) (others : List (Option InputKind)) → first_some (when b k ∷ others) ≡ None → (b ≡ false) × (first_some others ≡ None)
-passes false k others e = (refl, e)
-passes true k others e = cc
+no_fall last part e = by_part last part (nat_le part 3) (is_so (may_stand last part) e)
 
 -- ---- what comes of a line
 
 pub unless_roomy : (refusal : Option InputKind) (x next : Said) → (refusal ≡ None → IsRoomySaid x) → unless refusal x ≡ Ok next → IsRoomySaid next
-unless_roomy None x next h e = subst IsRoomySaid same (h refl)
-  where
-    same : x ≡ next
-    same = cc
-unless_roomy (Some k) x next h e = cc
+unless_roomy = unless_keeps IsRoomySaid
 
 pub done_roomy : (x next : Said) → IsRoomySaid x → ◌≡◌ {A = Result Said InputKind} (Ok x) (Ok next) → IsRoomySaid next
-done_roomy x next h e = subst IsRoomySaid same h
-  where
-    same : x ≡ next
-    same = cc
+done_roomy = done_keeps IsRoomySaid
 
 module _ (said : Said) (h : IsRoomySaid said) (out : said.inside ≡ inside.Outside) where
   -- a line of a later part, that says nothing of statements
