@@ -30,10 +30,10 @@ struct Parts {
     value: u64,
 }
 
-/// A text in which `@` stands for the table, `#` and `$` for the keys and `%` for the value, and between which keys it locks.
-#[derive(Clone, Copy)]
+/// A text, and between which keys it locks.
+#[derive(Drop)]
 struct Draft {
-    text: &'static str,
+    text: String,
     low: i64,
     high: i64,
 }
@@ -45,8 +45,14 @@ pub fn draw_call(alloc: Global, catalog: &Catalog, draw: &mut Draw) -> Result<Ca
     match draw.below(20) {
         0 => joined(alloc, catalog, parts),
         1 => paired(alloc, catalog, parts),
-        2..=8 => prepared(alloc, catalog, parts, false, read(shape, parts)),
-        _ => prepared(alloc, catalog, parts, true, write(shape, parts)),
+        2..=8 => {
+            let draft = read(alloc, shape, parts)?;
+            prepared(alloc, catalog, parts.table, false, draft)
+        }
+        _ => {
+            let draft = write(alloc, shape, parts)?;
+            prepared(alloc, catalog, parts.table, true, draft)
+        }
     }
 }
 
@@ -78,103 +84,182 @@ fn number(n: u64) -> i64 {
     i64::try_from(n).unwrap_or(i64::MAX)
 }
 
-fn read(shape: u64, parts: Parts) -> Draft {
-    let Parts { key, last, .. } = parts;
-    match shape {
-        0 => at_all("SELECT COUNT(*), SUM(v) FROM @"),
-        1 => at_all("SELECT id FROM @ WHERE v = %"),
-        2 => between(
-            "SELECT v, COUNT(*) FROM @ WHERE id <= # GROUP BY v",
+fn read(alloc: Global, shape: u64, parts: Parts) -> Result<Draft, AllocError> {
+    let Parts {
+        table,
+        key,
+        last,
+        value,
+    } = parts;
+    let name = named(table);
+    let (text, low, high) = match shape {
+        0 => (
+            format!(in alloc; "SELECT COUNT(*), SUM(v) FROM {name}")?,
+            i64::MIN,
+            i64::MAX,
+        ),
+        1 => (
+            format!(in alloc; "SELECT id FROM {name} WHERE v = {value}")?,
+            i64::MIN,
+            i64::MAX,
+        ),
+        2 => (
+            format!(in alloc; "SELECT v, COUNT(*) FROM {name} WHERE id <= {key} GROUP BY v")?,
             i64::MIN,
             key,
         ),
-        3 => between("SELECT v FROM @ WHERE id = $ OR # = id", key, last),
-        4..=6 => between("SELECT id, v FROM @ WHERE id >= # AND id <= $", key, last),
-        _ => between("SELECT v, id FROM @ WHERE id = #", key, key),
-    }
-}
-
-fn write(shape: u64, parts: Parts) -> Draft {
-    match shape {
-        0..=3 => insert(shape, parts),
-        4..=7 => update(shape, parts),
-        _ => delete(shape, parts),
-    }
-}
-
-fn insert(shape: u64, parts: Parts) -> Draft {
-    let Parts { key, last, .. } = parts;
-    match shape {
-        0 => between("INSERT INTO @ VALUES ($, %), (#, #)", key, last),
-        1 => between("INSERT INTO @ VALUES (#, NULL)", key, key),
-        _ => between("INSERT INTO @ VALUES (#, %)", key, key),
-    }
-}
-
-fn update(shape: u64, parts: Parts) -> Draft {
-    let Parts { key, last, .. } = parts;
-    match shape {
-        4 => between(
-            "UPDATE @ SET v = v * 4000000000 WHERE id >= # AND $ >= id",
+        3 => (
+            format!(in alloc; "SELECT v FROM {name} WHERE id = {last} OR {key} = id")?,
             key,
             last,
         ),
-        5 => between(
-            "UPDATE @ SET v = % WHERE id > # AND id < $",
+        4..=6 => (
+            format!(in alloc; "SELECT id, v FROM {name} WHERE id >= {key} AND id <= {last}")?,
+            key,
+            last,
+        ),
+        _ => (
+            format!(in alloc; "SELECT v, id FROM {name} WHERE id = {key}")?,
+            key,
+            key,
+        ),
+    };
+    Ok(Draft { text, low, high })
+}
+
+fn write(alloc: Global, shape: u64, parts: Parts) -> Result<Draft, AllocError> {
+    match shape {
+        0..=3 => insert(alloc, shape, parts),
+        4..=7 => update(alloc, shape, parts),
+        _ => delete(alloc, shape, parts),
+    }
+}
+
+fn insert(alloc: Global, shape: u64, parts: Parts) -> Result<Draft, AllocError> {
+    let Parts {
+        table,
+        key,
+        last,
+        value,
+    } = parts;
+    let name = named(table);
+    let (text, low, high) = match shape {
+        0 => (
+            format!(in alloc; "INSERT INTO {name} VALUES ({last}, {value}), ({key}, {key})")?,
+            key,
+            last,
+        ),
+        1 => (
+            format!(in alloc; "INSERT INTO {name} VALUES ({key}, NULL)")?,
+            key,
+            key,
+        ),
+        _ => (
+            format!(in alloc; "INSERT INTO {name} VALUES ({key}, {value})")?,
+            key,
+            key,
+        ),
+    };
+    Ok(Draft { text, low, high })
+}
+
+fn update(alloc: Global, shape: u64, parts: Parts) -> Result<Draft, AllocError> {
+    let Parts {
+        table,
+        key,
+        last,
+        value,
+    } = parts;
+    let name = named(table);
+    let (text, low, high) = match shape {
+        4 => (
+            format!(in alloc;
+                "UPDATE {name} SET v = v * 4000000000 WHERE id >= {key} AND {last} >= id"
+            )?,
+            key,
+            last,
+        ),
+        5 => (
+            format!(in alloc; "UPDATE {name} SET v = {value} WHERE id > {key} AND id < {last}")?,
             key.saturating_add(1),
             last.saturating_sub(1),
         ),
-        6 if key < 4 => at_all("UPDATE @ SET v = v - 1 WHERE v = %"),
-        _ => between("UPDATE @ SET v = v + id WHERE id = #", key, key),
-    }
+        6 if key < 4 => (
+            format!(in alloc; "UPDATE {name} SET v = v - 1 WHERE v = {value}")?,
+            i64::MIN,
+            i64::MAX,
+        ),
+        _ => (
+            format!(in alloc; "UPDATE {name} SET v = v + id WHERE id = {key}")?,
+            key,
+            key,
+        ),
+    };
+    Ok(Draft { text, low, high })
 }
 
-fn delete(shape: u64, parts: Parts) -> Draft {
-    let Parts { key, last, .. } = parts;
-    match shape {
-        8 if key < 4 => at_all("DELETE FROM @ WHERE v = %"),
-        8 => between(
-            "DELETE FROM @ WHERE id >= # AND id <= $ AND v > %",
+fn delete(alloc: Global, shape: u64, parts: Parts) -> Result<Draft, AllocError> {
+    let Parts {
+        table,
+        key,
+        last,
+        value,
+    } = parts;
+    let name = named(table);
+    let (text, low, high) = match shape {
+        8 if key < 4 => (
+            format!(in alloc; "DELETE FROM {name} WHERE v = {value}")?,
+            i64::MIN,
+            i64::MAX,
+        ),
+        8 => (
+            format!(in alloc;
+                "DELETE FROM {name} WHERE id >= {key} AND id <= {last} AND v > {value}"
+            )?,
             key,
             last,
         ),
-        _ => between("DELETE FROM @ WHERE id = #", key, key),
-    }
-}
-
-fn between(text: &'static str, low: i64, high: i64) -> Draft {
-    Draft { text, low, high }
-}
-
-fn at_all(text: &'static str) -> Draft {
-    between(text, i64::MIN, i64::MAX)
+        _ => (
+            format!(in alloc; "DELETE FROM {name} WHERE id = {key}")?,
+            key,
+            key,
+        ),
+    };
+    Ok(Draft { text, low, high })
 }
 
 // A join locks all of the table whose key it doesn't ask for.
 fn joined(alloc: Global, catalog: &Catalog, parts: Parts) -> Result<Call, AllocError> {
     let key = parts.key;
-    let draft = between(
-        "SELECT t.v, u.v FROM t JOIN u ON t.id = u.id WHERE t.id = #",
-        key,
-        key,
-    );
-    let of_t = Parts { table: 0, ..parts };
-    let mut call = prepared(alloc, catalog, of_t, false, draft)?;
+    let draft = Draft {
+        text: format!(in alloc; "SELECT t.v, u.v FROM t JOIN u ON t.id = u.id WHERE t.id = {key}")?,
+        low: key,
+        high: key,
+    };
+    let mut call = prepared(alloc, catalog, 0, false, draft)?;
     call.locks.push(read_lock(1, i64::MIN, i64::MAX))?;
     Ok(call)
 }
 
 // A join of a table with itself locks two keys, and none between them.
 fn paired(alloc: Global, catalog: &Catalog, parts: Parts) -> Result<Call, AllocError> {
-    let key = parts.key;
-    let other = number(parts.value);
-    let draft = between(
-        "SELECT a.v, b.v FROM @ a JOIN @ b ON a.id <> b.id WHERE a.id = # AND b.id = %",
+    let Parts {
+        table,
         key,
-        key,
-    );
-    let mut call = prepared(alloc, catalog, parts, false, draft)?;
-    call.locks.push(read_lock(parts.table, other, other))?;
+        value,
+        ..
+    } = parts;
+    let name = named(table);
+    let draft = Draft {
+        text: format!(in alloc;
+            "SELECT a.v, b.v FROM {name} a JOIN {name} b ON a.id <> b.id WHERE a.id = {key} AND b.id = {value}"
+        )?,
+        low: key,
+        high: key,
+    };
+    let mut call = prepared(alloc, catalog, table, false, draft)?;
+    call.locks
+        .push(read_lock(table, number(value), number(value)))?;
     Ok(call)
 }
 
@@ -187,43 +272,23 @@ fn read_lock(table: u64, low: i64, high: i64) -> Lock {
     }
 }
 
-// The statement of a draft.
+// The statement of a text.
 fn prepared(
     alloc: Global,
     catalog: &Catalog,
-    parts: Parts,
+    table: u64,
     writes: bool,
     draft: Draft,
 ) -> Result<Call, AllocError> {
-    let text = text_of(alloc, draft.text, parts)?;
-    let stmt = statement(alloc, catalog, text.as_str())?;
+    let stmt = statement(alloc, catalog, draft.text.as_str())?;
     let mut locks = Vec::new(alloc);
     locks.push(Lock {
-        table: parts.table,
+        table,
         low: draft.low,
         high: draft.high,
         writes,
     })?;
     Ok(Call { stmt, locks })
-}
-
-fn text_of(alloc: Global, draft: &str, parts: Parts) -> Result<String, AllocError> {
-    let mut text = String::new(alloc);
-    for c in draft.chars() {
-        push_part(&mut text, c, parts)?;
-    }
-    Ok(text)
-}
-
-fn push_part(text: &mut String, c: char, parts: Parts) -> Result<(), AllocError> {
-    match c {
-        '@' => text.push_str(named(parts.table))?,
-        '#' => write!(text, "{}", parts.key)?,
-        '$' => write!(text, "{}", parts.last)?,
-        '%' => write!(text, "{}", parts.value)?,
-        c => text.push(c)?,
-    }
-    Ok(())
 }
 
 // Each text here is a statement.

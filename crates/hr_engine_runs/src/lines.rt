@@ -1,23 +1,19 @@
-//! Calls from lines, at both engines, each under a script.
+//! Calls from lines, at both engines.
 
-use crate::script::script_of;
 use crate::tables::{Tables, range_engine_of, table_engine_of};
 use hr_answer_text::write;
 use hr_bind::prepare;
 use hr_engine::{Backend, EndReply, RunReply, TxnId};
 use hr_engines::Engines;
-use hr_faulty::Faulty;
 use hr_rel::{Answer, Rows, Seq, Stmt};
 use std::alloc::{AllocError, Global};
 
-const MANY: i64 = 1500;
-
-/// Two engines beside each other, with the same script.
+/// Two engines beside each other.
 #[derive(Drop)]
 pub struct Both {
     tables: Tables,
-    table: Faulty<Engines>,
-    range: Faulty<Engines>,
+    table: Engines,
+    range: Engines,
 }
 
 /// A call at an engine.
@@ -31,21 +27,21 @@ enum EngineCall {
 }
 
 impl Both {
-    /// Two that have just begun, over these tables. The script is that of a line, of one fault or none.
-    pub fn new(alloc: Global, tables: Tables, script: &str) -> Result<Both, AllocError> {
+    pub fn new(alloc: Global) -> Result<Both, AllocError> {
+        let tables = Tables::new(alloc)?;
         let table = table_engine_of(alloc, &tables)?;
         let range = range_engine_of(alloc, &tables)?;
         Ok(Both {
             tables,
-            table: Faulty::new(table, script_of(alloc, script)?),
-            range: Faulty::new(range, script_of(alloc, script)?),
+            table,
+            range,
         })
     }
 
     /// Takes a line, and says what came of it.
     pub fn take(&mut self, alloc: Global, line: &str) -> Result<String, AllocError> {
-        if let Some(begun) = begun_by(alloc, line)? {
-            *self = begun;
+        if line == "database" {
+            *self = Both::new(alloc)?;
             return String::from_str(alloc, "anew");
         }
         match self.call_of(alloc, line) {
@@ -77,20 +73,6 @@ impl Both {
     }
 }
 
-// What begins anew with a line: over few rows or many, with or without a fault.
-fn begun_by(alloc: Global, line: &str) -> Result<Option<Both>, AllocError> {
-    if line == "database" {
-        return Ok(Some(Both::new(alloc, Tables::new(alloc)?, "")?));
-    }
-    if line == "many rows" {
-        return Ok(Some(Both::new(alloc, Tables::with_rows(alloc, MANY)?, "")?));
-    }
-    match line.strip_prefix("database ") {
-        Some(script) => Ok(Some(Both::new(alloc, Tables::new(alloc)?, script)?)),
-        None => Ok(None),
-    }
-}
-
 fn txn_of(who: &str) -> TxnId {
     match who {
         "1" => 1,
@@ -100,11 +82,7 @@ fn txn_of(who: &str) -> TxnId {
     }
 }
 
-fn told(
-    alloc: Global,
-    engine: &mut Faulty<Engines>,
-    call: &EngineCall,
-) -> Result<String, AllocError> {
+fn told(alloc: Global, engine: &mut Engines, call: &EngineCall) -> Result<String, AllocError> {
     match call {
         EngineCall::Run(txn, stmt) => reply_text(alloc, &engine.run(alloc, *txn, stmt)),
         EngineCall::Commit(txn) => end_text(alloc, engine.commit(*txn)),

@@ -1,23 +1,19 @@
-//! Runs the two engines. First calls from `stdin`, one a line, at both, with what each replies; then how many keys the range engine
-//! hands out; then random calls at each, held
+//! Runs the two engines. First calls from `stdin`, one a line, at both, with what each replies; then random calls at each, held
 //! against plain lists of locks, in which all cycles are looked through, and against a plain machine, on which each transaction
 //! runs at its end. `stdout` has what is to come of it, worked out by hand.
 //!
-//! A line `database` begins anew, `database 2 wrong 7` so that the second call of each engine is answered by a script, and `many rows`
-//! over 1,500 rows. `1: SELECT ..`, `1: COMMIT` and `1: ROLLBACK` are calls of transaction 1; `RESTART` and `DUMP` are calls of nobody.
+//! A line `database` begins anew; `1: SELECT ..`, `1: COMMIT` and `1: ROLLBACK` are calls of transaction 1; `RESTART` and `DUMP` are
+//! calls of nobody.
 #![tactic(auto)]
 
 mod call;
 mod draw;
-mod handed;
 mod lines;
 mod locks;
 mod play;
-mod script;
 mod tables;
 mod tally;
 
-use crate::handed::handed_text;
 use crate::lines::Both;
 use crate::play::random_calls;
 use crate::tables::{Tables, range_engine_of, table_engine_of};
@@ -26,14 +22,12 @@ use std::alloc::{AllocError, Global};
 use std::io;
 
 fn main(rt: HostRuntime) -> io::Result<()> {
-    let mut both = Both::new(rt.alloc(), Tables::new(rt.alloc())?, "")?;
+    let mut both = Both::new(rt.alloc())?;
     for line in rt.lines(rt.alloc()) {
         let line = line?;
         let told = both.take(rt.alloc(), line.as_str())?;
         println!(rt; "{line}\n{told}")?;
     }
-    let handed = handed_text(rt.alloc())?;
-    print!(rt; "{handed}")?;
     print_random(&rt)
 }
 

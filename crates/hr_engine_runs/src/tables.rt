@@ -19,25 +19,12 @@ pub struct Tables {
 
 impl Tables {
     pub fn new(alloc: Global) -> Result<Tables, AllocError> {
-        Tables::of(alloc, two_rows(alloc)?)
-    }
-
-    /// The same with the rows `(1, 1)`, `(2, 2)` and so on in t.
-    pub fn with_rows(alloc: Global, count: i64) -> Result<Tables, AllocError> {
-        let mut rows = Seq::new(alloc);
-        for id in 1..=count {
-            rows.push(row(alloc, id, id)?)?;
-        }
-        Tables::of(alloc, rows)
-    }
-
-    fn of(alloc: Global, of_t: Table) -> Result<Tables, AllocError> {
         let mut tables = Seq::new(alloc);
         tables.push(table(alloc, b"t", false)?)?;
         tables.push(table(alloc, b"u", true)?)?;
         let catalog = Catalog { tables };
         let mut rows = Seq::new(alloc);
-        rows.push(of_t)?;
+        rows.push(two_rows(alloc)?)?;
         rows.push(Seq::new(alloc))?;
         Ok(Tables { catalog, rows })
     }
