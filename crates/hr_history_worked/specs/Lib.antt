@@ -25,3 +25,4 @@ pub mod Views
 pub mod States
 pub mod StaleVoteStates
 pub mod Steps
+pub mod Journals

@@ -10,6 +10,7 @@ pub mod decisions;
 pub mod details;
 pub mod faithful;
 pub mod giving_way;
+pub mod journals;
 pub mod losses;
 pub mod other_sizes;
 pub mod primaries;
