@@ -8,7 +8,8 @@ ghost use Rattle.hr_history_worked.specs.SuspectedPrimary.{suspected_primary};
 ghost use Rattle.hr_schedule.specs.Tries.{tries_of};
 ghost use Rattle.hr_schedule.specs.Scripts.{next_call_of};
 ghost use Rattle.hr_schedule.specs.Choices.{is_suspect_due};
-ghost use Rattle.hr_schedule_worked.specs.Scenarios.{after, inserting, lied_to, suspecting};
+ghost use Rattle.hr_history_worked.specs.GivingWay.{rolled_back};
+ghost use Rattle.hr_schedule_worked.specs.Scenarios.{after, inserting, lied_to, suspecting, two_blocks, rolls_back_first};
 
 /// A session goes through its block, statement by statement, and waits for each reply.
 pub fn block_of_two_statements()
@@ -52,4 +53,10 @@ pub fn suspicion_after_one_commit()
     ensures before { is_suspect_due suspecting (after 11 suspected_primary) ≡ false }
     ensures due { is_suspect_due suspecting (after 12 suspected_primary) ≡ true }
     ensures made { is_suspect_due suspecting (after 14 suspected_primary) ≡ false }
+{}
+
+/// Behind a block that was committed comes the next one, and so behind one that was rolled back.
+pub fn next_blocks()
+    ensures committed { next_call_of two_blocks 1 (after 17 insert_and_select) ≡ Some (Begin 1 2) }
+    ensures rolled_back { next_call_of rolls_back_first 1 (after 20 rolled_back) ≡ Some (Begin 1 4) }
 {}
