@@ -1,5 +1,5 @@
 -- Journals beside the worked ones of `hr_engine`.
-use Rattle.std.specs.Prelude.{[], ◌∷◌}
+use Rattle.std.specs.Prelude.{pos, [], ◌∷◌}
 use Rattle.hr_rel.specs.declared.answer.Answer.TheVariants.{Failed}
 use Rattle.hr_rel.specs.declared.answer.RunError.TheVariants.{DuplicateKey}
 use Rattle.hr_meaning.specs.Worked.{insert}
@@ -26,7 +26,7 @@ doubt_behind_a_commit = in_order (inserts 1 5 50 ∷ Committed 1 end.Done ∷ in
 
 -- the key that transaction 2 inserts was committed before
 abbrev pub key_is_there : Journal
-key_is_there = in_order (inserts 1 5 50 ∷ Committed 1 end.Done ∷ Ran 2 (insert 5 51) (run.Done (Failed (DuplicateKey 5))) ∷ [])
+key_is_there = in_order (inserts 1 5 50 ∷ Committed 1 end.Done ∷ Ran 2 (insert 5 51) (run.Done (Failed (DuplicateKey (pos 5)))) ∷ [])
 
 -- transaction 2 has just read a row of transaction 1
 abbrev pub reads_uncommitted : Journal
