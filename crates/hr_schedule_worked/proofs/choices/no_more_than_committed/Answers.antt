@@ -10,6 +10,7 @@ use Rattle.hr_schedule_worked.proofs.choices.no_more_than_committed.Goals as goa
 -- after none of the log the table is empty
 pub returns : goal.returns
 returns c holds = elim holds.at [
-    inl none ↦ (let rows : ◌≡◌ {A = TableRows} ((row 5 50 ∷ []) ∷ []) ([] ∷ []) =
-        subst (λ (k : ℕ). ((row 5 50 ∷ []) ∷ []) ≡ (database_at (holding []) (log_statements (after 17 insert_and_select)) k).tables) none holds.shown in cc)
-    | inr doubt ↦ (let never : ◌≡◌ {A = Bool} false true = doubt.0 in cc) ]
+  | inl none ↦ (let rows : ◌≡◌ {A = TableRows} ((row 5 50 ∷ []) ∷ []) ([] ∷ []) =
+      subst (λ (k : ℕ). ((row 5 50 ∷ []) ∷ []) ≡ (database_at (holding []) (log_statements (after 17 insert_and_select)) k).tables) none holds.shown in cc)
+  | inr doubt ↦ (let never : ◌≡◌ {A = Bool} false true = doubt.0 in cc)
+]

@@ -11,8 +11,20 @@ pub returns : goal.returns
 returns c =
     let submitted = after 2 alone_for_a_round in
     let taken = after 3 alone_for_a_round in
-    let given = after 4 alone_for_a_round in
-    let submits = record { more = []; is = refl; follows = tt; ends = refl } in
-    let takes = record { more = []; is = refl; follows = tt; ends = refl } in
-    let replies = (event.Give 0 (Ran (Done (Count 1))), refl, record { more = []; is = refl; follows = tt; ends = refl }) in
-    (submitted, (submitted, (submitted, submits, (0, refl, refl)), refl), (given, (given, (taken, takes, replies), (0, refl, refl)), refl))
+    let given = after 4 alone_for_a_round in (
+      submitted,
+      (submitted, (submitted, record { more = []; is = refl; follows = tt; ends = refl }, (0, refl, refl)), refl),
+      (
+        given,
+        (
+          given,
+          (
+            taken,
+            record { more = []; is = refl; follows = tt; ends = refl },
+            (event.Give 0 (Ran (Done (Count 1))), refl, record { more = []; is = refl; follows = tt; ends = refl }),
+          ),
+          (0, refl, refl),
+        ),
+        refl,
+      ),
+    )
