@@ -1,0 +1,4 @@
+pub mod Taken
+pub mod Blocks
+pub mod Few
+pub mod Steps
