@@ -1,5 +1,6 @@
 //! A whole report.
-ghost use Rattle.std.specs.Prelude.{◌≡◌, ◌+◌, ◌<◌, ◌≤◌, ◌^◌, length};
+ghost use Rattle.std.specs.Prelude.{◌≡◌, ◌+◌, ◌<◌, ◌≤◌, ◌^◌, length, IfOk};
+ghost use Rattle.hr_told.specs.Blocks.{AreOf};
 ghost use Rattle.hr_report_reader.specs.Reading as spec;
 ghost use Rattle.hr_report_reader.specs.declared.reader.ReportError.TheVariants.{NoMemory};
 ghost use Rattle.hr_answer_reader.specs.Lines.{lines_of, lines_behind};
@@ -34,6 +35,18 @@ impl From<AllocError> for ReportError {
 /// Reads a report of a scenario: exactly what a text tells that is one, or the first of its lines that is refused; one behind
 /// the last where the text ends too early. `first_line` is the number of the text's first line.
 pub fn read_report(
+    alloc: Global,
+    scenario: &Scenario,
+    text: &[u8],
+    first_line: u32,
+) -> Result<Report, ReportError>
+    ensures told { IfOk result (λ report. AreOf scenario.now report.commits) }
+    ensures exact { spec.IsRead (spec.report_of scenario.now first_line text.now) result }
+{
+    read(alloc, scenario, text, first_line)
+}
+
+fn read(
     alloc: Global,
     scenario: &Scenario,
     text: &[u8],
