@@ -1,0 +1,5 @@
+pub mod Held
+pub mod Numbers
+pub mod Rows
+pub mod Answers
+pub mod Lines

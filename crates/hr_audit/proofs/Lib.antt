@@ -1,0 +1,2 @@
+pub mod WrongLaws
+pub mod Verdicts

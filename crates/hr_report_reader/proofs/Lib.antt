@@ -1,0 +1,5 @@
+pub mod Taken
+pub mod Blocks
+pub mod Few
+pub mod Steps
+pub mod Sound
