@@ -19,6 +19,8 @@ pub struct Load {
     pub sessions: u32,
     /// How many statements a transaction has.
     pub statements: u32,
+    /// How many jobs a replica does in a round, at most.
+    pub jobs: u32,
     pub replies: Replies,
 }
 
@@ -45,7 +47,7 @@ pub struct Ran {
 }
 
 /// Rounds of sessions and replicas, until the history has so many entries: each session makes one call, and each replica does
-/// one job, if it has one.
+/// its jobs.
 pub fn run(alloc: Global, load: &Load, entries: usize) -> Result<Ran, Refusal>
     requires { load.now.f ≤ 3 }
 {
@@ -55,7 +57,7 @@ pub fn run(alloc: Global, load: &Load, entries: usize) -> Result<Ran, Refusal>
     let mut calls: u64 = 0;
     'rounds: for _ in 0..entries {
         let asked = ask_all(alloc, &mut shepherd, &mut newest, load.statements)?;
-        let worked = work_all(alloc, &mut shepherd, &mut rows, load.replies)?;
+        let worked = work_all(alloc, &mut shepherd, &mut rows, load)?;
         calls = calls.saturating_add(asked).saturating_add(worked);
         if shepherd.history().len() >= entries {
             break;
@@ -162,17 +164,35 @@ fn work_all(
     alloc: Global,
     shepherd: &mut Shepherd,
     rows: &mut [TxnId],
-    replies: Replies,
+    load: &Load,
 ) -> Result<u64, Refusal> {
-    let mut worked: u64 = 0;
+    let mut made: u64 = 0;
     let mut next: u32 = 0;
     'replicas: for place in 0..rows.len() {
         let replica = next;
         next = next.saturating_add(1);
-        let done = work(alloc, shepherd, replica, &mut rows[place], replies)?;
-        worked = worked.saturating_add(2 * u64::from(done));
+        let worked = work_on(alloc, shepherd, replica, &mut rows[place], load)?;
+        made = made.saturating_add(worked);
     }
-    Ok(worked)
+    Ok(made)
+}
+
+// A replica's jobs of a round. How many calls it made.
+fn work_on(
+    alloc: Global,
+    shepherd: &mut Shepherd,
+    replica: u32,
+    row: &mut TxnId,
+    load: &Load,
+) -> Result<u64, Refusal> {
+    let mut made: u64 = 0;
+    'jobs: for _ in 0..load.jobs {
+        if !work(alloc, shepherd, replica, row, load.replies)? {
+            break;
+        }
+        made = made.saturating_add(2);
+    }
+    Ok(made)
 }
 
 // A replica is given its job, and replies. Whether it had one.

@@ -15,6 +15,7 @@ pub const ONE_SESSION: Load = Load {
     f: 1,
     sessions: 1,
     statements: 1,
+    jobs: 1,
     replies: Replies::Same,
 };
 
@@ -23,7 +24,26 @@ pub const EMPTY: Load = Load {
     f: 1,
     sessions: 64,
     statements: 0,
+    jobs: 1,
     replies: Replies::Same,
+};
+
+/// 64 sessions of transactions of one statement, seven replicas.
+pub const SESSIONS: Load = Load {
+    f: 3,
+    sessions: 64,
+    statements: 1,
+    jobs: 1,
+    replies: Replies::Same,
+};
+
+/// The same on one row, where each replica goes on until it has no job.
+pub const ONE_ROW: Load = Load {
+    f: 3,
+    sessions: 64,
+    statements: 1,
+    jobs: 64,
+    replies: Replies::OneRow,
 };
 
 /// The task of this name, if there is one.
@@ -31,11 +51,11 @@ pub fn task_of(name: &str) -> Option<Task> {
     match name {
         "one_session" => Some(Task::Run(ONE_SESSION)),
         "empty" => Some(Task::Run(EMPTY)),
-        "sessions" => Some(Task::Run(sessions(3, 64, 1, Replies::Same))),
-        "load" => Some(Task::Run(sessions(1, 8, 2, Replies::Same))),
-        "left_out" => Some(Task::Run(sessions(1, 8, 2, Replies::LastLeftOut))),
-        "convicted" => Some(Task::Run(sessions(1, 8, 2, Replies::LastLies))),
-        "one_row" => Some(Task::Run(sessions(3, 64, 1, Replies::OneRow))),
+        "sessions" => Some(Task::Run(SESSIONS)),
+        "one_row" => Some(Task::Run(ONE_ROW)),
+        "load" => Some(Task::Run(load(Replies::Same))),
+        "left_out" => Some(Task::Run(load(Replies::LastLeftOut))),
+        "convicted" => Some(Task::Run(load(Replies::LastLies))),
         "job" => Some(Task::Ask(Rule::Next)),
         "preempts" => Some(Task::Ask(Rule::Preempts)),
         "tally" => Some(Task::Ask(Rule::Tally)),
@@ -45,11 +65,13 @@ pub fn task_of(name: &str) -> Option<Task> {
     }
 }
 
-fn sessions(f: u32, sessions: u32, statements: u32, replies: Replies) -> Load {
+// Eight sessions of transactions of two statements, three replicas.
+fn load(replies: Replies) -> Load {
     Load {
-        f,
-        sessions,
-        statements,
+        f: 1,
+        sessions: 8,
+        statements: 2,
+        jobs: 1,
         replies,
     }
 }
