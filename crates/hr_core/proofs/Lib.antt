@@ -8,3 +8,4 @@ pub mod Silent
 pub mod Firsts
 pub mod Waits
 pub mod Copied
+pub mod Crossing

@@ -12,7 +12,7 @@ use crate::fault::Fault;
 use crate::replicas::run_all;
 use crate::table::{catalog, engine};
 use hr_bind::prepare;
-use hr_history::Reply;
+use hr_history::{Cause, Reply};
 use hr_shepherd::Shepherd;
 
 // The caller's number of the only session: 0 is the root's, and 1 to 3 are the replicas'.
@@ -52,6 +52,9 @@ fn print_reply<R: Print + AllocGlobal>(rt: &R, shepherd: &Shepherd) -> Result<()
     match &reply {
         Some(Reply::Answered(answer)) => println!(rt; "{answer:?}")?,
         Some(Reply::Committed(place)) => println!(rt; "committed at {place}")?,
+        Some(Reply::Refused(Cause::PrimaryMemory)) => println!(rt;
+            "refused: the primary had no memory"
+        )?,
         Some(Reply::Refused(_)) => println!(rt; "refused: begin again")?,
         None => println!(rt; "no reply yet")?,
     }

@@ -6,3 +6,4 @@ pub mod Rooms
 pub mod Replied
 pub mod FollowUps
 pub mod First
+pub mod Crossing

@@ -1,25 +1,47 @@
-//! Figures of the rules in code: how long a job, a tally, a search for one to preempt, and a look for evidence take, also where
-//! each of many transactions waits for all before it.
+//! Figures of the rules in code and of the shepherd: what a job, a tally, a search for one to preempt, and a look for evidence
+//! take, also where each of many transactions waits for all before it; and what whole runs take.
 //!
-//! With the word `times` it prints nanoseconds, best of five runs; without, what the rules answer, which is the same
-//! wherever it runs.
+//! It has no clock: `tools/core-figures` runs it under one that counts instructions, and tells the table. With the name of a
+//! run, and the number of entries that the history is to have, it makes that run. With the name of a rule, and four numbers (`f`,
+//! the open transactions, the finished ones, the calls), it asks that rule so often. Without words it prints what the rules answer
+//! and two short runs.
 #![tactic(auto)]
 
 mod report;
+mod rules;
+mod runs;
 mod views;
 mod waits;
+mod words;
 
-use report::{print_answers, print_times};
+use report::{print_answers, print_rule, print_run};
 use std::{env, io};
+use views::Size;
+use words::{Task, task_of};
 
 fn main(rt: HostRuntime) -> io::Result<()> {
-    let mut wants_times = false;
+    let mut task = None;
+    let mut numbers = Vec::new(rt.alloc());
     for word in env::args(&rt)?.skip(1) {
-        wants_times |= word.as_str() == "times";
+        match word.as_str().parse::<u32>() {
+            Ok(number) => numbers.push(number)?,
+            Err(_) => task = task_of(word.as_str()),
+        }
     }
-    if wants_times {
-        print_times(&rt)
-    } else {
-        print_answers(&rt)
+    match (task, numbers.as_slice()) {
+        (Some(Task::Run(load)), [entries]) if load.f <= 3 => print_run(
+            &rt,
+            &load,
+            *entries as usize,
+        ),
+        (Some(Task::Ask(rule)), [f @ 0..=3, open, finished, calls]) => {
+            let size = Size {
+                f: *f,
+                finished: *finished,
+                open: *open,
+            };
+            print_rule(&rt, rule, &size, *calls)
+        }
+        _ => print_answers(&rt),
     }
 }

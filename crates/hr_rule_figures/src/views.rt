@@ -24,10 +24,7 @@ pub fn view_of(alloc: Global, size: &Size) -> Result<View, AllocError>
     requires { size.now.f ≤ 3 }
 {
     let mut view = View::new(alloc, size.f)?;
-    for _ in 0..size.finished {
-        view.begin(alloc, 1)?;
-        refuse(&mut view);
-    }
+    finish(alloc, &mut view, size.finished)?;
     for _ in 0..size.open {
         view.begin(alloc, 1)?;
         submit(&mut view)?;
@@ -35,6 +32,15 @@ pub fn view_of(alloc: Global, size: &Size) -> Result<View, AllocError>
     view.begin(alloc, 1)?;
     ask(&mut view);
     Ok(view)
+}
+
+/// So many transactions begin, and are refused.
+pub fn finish(alloc: Global, view: &mut View, count: u32) -> Result<(), AllocError> {
+    for _ in 0..count {
+        view.begin(alloc, 1)?;
+        refuse(view);
+    }
+    Ok(())
 }
 
 /// The open transaction that began last, if one is open.

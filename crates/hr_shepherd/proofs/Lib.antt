@@ -3,3 +3,4 @@ pub mod Owners
 pub mod Lent
 pub mod Growing
 pub mod Promised
+pub mod Crossing

@@ -7,6 +7,7 @@ mod gate;
 mod order;
 mod refusal;
 mod shepherd;
+pub mod threads;
 
 pub use order::Order;
 pub use refusal::Refusal;
