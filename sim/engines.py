@@ -10,7 +10,7 @@ from collections import deque
 from collections.abc import Iterator
 from dataclasses import dataclass
 
-from . import syntax
+from . import syntax, write
 from .machine import Answer, Catalog, Count, Failed, Machine, Rows, Table, table_of
 from .scenario import Act, Scenario
 from .syntax import GREATEST, LEAST, Statement
@@ -23,20 +23,32 @@ ALL: Span = (LEAST, GREATEST)
 class Done:
     answer: Answer
 
+    @property
+    def told(self) -> str:
+        return write.answer(self.answer)
+
 
 @dataclass(frozen=True)
 class Blocked:
     by: tuple[int, ...]
+
+    @property
+    def told(self) -> str:
+        return f"waits for {', '.join(map(str, self.by)) or 'nobody'}"
 
 
 @dataclass(frozen=True)
 class Deadlock:
     members: tuple[int, ...]
 
+    @property
+    def told(self) -> str:
+        return f"deadlock {', '.join(map(str, self.members))}"
+
 
 @dataclass(frozen=True)
 class Lost:
-    pass
+    told: str = "lost"
 
 
 Reply = Done | Blocked | Deadlock | Lost

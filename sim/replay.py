@@ -8,7 +8,7 @@ from dataclasses import dataclass
 from . import write
 from .engines import Backend
 from .scenario import Block, Scenario
-from .shepherd import Shepherd, Txn
+from .shepherd import Event, Shepherd, Txn
 
 
 @dataclass
@@ -58,6 +58,8 @@ class Run:
         self.shepherd = Shepherd(scenario.f, len(scenario.kinds))
         self.backends = [Backend(scenario, it) for it in range(len(scenario.kinds))]
         self.sessions = [Session(number, it) for number, it in enumerate(scenario.sessions, 1)]
+        # Where a replica's script had an act for its call, whether or not it changed the reply.
+        self.acts: list[Event] = []
 
     def whole(self) -> Run:
         for it in self.scenario.choices:
@@ -93,6 +95,9 @@ class Run:
         job, backend = self.shepherd.replicas[replica].out, self.backends[replica]
         if job is None:
             return False
+        act = backend.script.get(backend.calls + 1)
+        if act is not None and act.acts_on(job.word):
+            self.acts.append(Event(self.shepherd.next_turn, "act", job.txn, replica, act.text))
         if job.word == "run":
             tree = self.shepherd.txn(job.txn).statements[job.index - 1]
             self.shepherd.ran(replica, backend.run(job.txn, tree))
@@ -101,6 +106,9 @@ class Run:
         else:
             self.shepherd.ended(replica, backend.end(job.txn, job.word == "commit"))
         return True
+
+    def report(self) -> bytes:
+        return ("\n".join(self.lines()) + "\n").encode()
 
     def lines(self) -> Iterator[str]:
         """The report's lines."""
@@ -134,4 +142,5 @@ class Run:
 
 
 def report(scenario: Scenario) -> bytes:
-    return ("\n".join(Run(scenario).whole().lines()) + "\n").encode()
+    """The report of a scenario's run."""
+    return Run(scenario).whole().report()

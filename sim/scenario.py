@@ -52,6 +52,15 @@ class Act:
     def is_loss(self) -> bool:
         return self.word in ("before", "after")
 
+    @property
+    def text(self) -> str:
+        """As in a scenario's line."""
+        return " ".join(["lose" if self.is_loss else "lie", self.word, *map(str, self.numbers)])
+
+    def acts_on(self, job: str) -> bool:
+        """Whether it is an act on a call of this job: run, commit, rollback or restart."""
+        return self.is_loss or (job == "restart" if self.word == "position" else job == "run")
+
 
 @dataclass
 class Block:

@@ -119,11 +119,15 @@ class Progress:
 
 
 @dataclass(frozen=True)
-class Reason:
-    """Why a replica is convicted, as a report tells it."""
+class Event:
+    """What happened in a turn, for those who look at the run: `word` is begin, submit, ask, rollback, given, suspect, take,
+    reply, decide, refuse, convict, primary or preempt, and `text` says more."""
 
-    replica: int
-    text: str
+    turn: int
+    word: str
+    txn: int = 0
+    replica: int = -1
+    text: str = ""
 
 
 class Shepherd:
@@ -136,11 +140,23 @@ class Shepherd:
         self.search_after = 0
         self.asked = 0
         self.suspects = 0
-        self.convictions: list[Reason] = []
+        self.history: list[Event] = []
         self.clear_turn()
+
+    @property
+    def convictions(self) -> list[Event]:
+        return [it for it in self.history if it.word == "convict"]
+
+    @property
+    def next_turn(self) -> int:
+        return self.history[-1].turn + 1 if self.history else 1
+
+    def note(self, word: str, txn: int = 0, replica: int = -1, text: str = "") -> None:
+        self.history.append(Event(self.turn, word, txn, replica, text))
 
     def clear_turn(self) -> None:
         """A turn begins: nothing has happened in it."""
+        self.turn = self.next_turn
         self.fresh: tuple[int, int, Reply] | None = None
         self.bad_restart: tuple[int, int] | None = None
         self.left: tuple[int, str] | None = None
@@ -156,12 +172,14 @@ class Shepherd:
     def begin(self, session: int) -> Txn:
         self.clear_turn()
         self.txns.append(Txn(len(self.txns) + 1, session))
+        self.note("begin", len(self.txns))
         self.follow()
         return self.txns[-1]
 
     def submit(self, txn: Txn, tree: Statement) -> None:
         self.clear_turn()
         txn.statements.append(tree)
+        self.note("submit", txn.number)
         self.follow()
 
     def ask(self, txn: Txn, commits: bool) -> None:
@@ -171,11 +189,13 @@ class Shepherd:
             txn.phase, txn.order = "asked", self.asked
         else:
             txn.phase, txn.ending = "rolledback", "rolledback"
+        self.note("ask" if commits else "rollback", txn.number)
         self.follow()
 
     def suspect(self) -> None:
         self.clear_turn()
         self.suspects += 1
+        self.note("suspect", replica=-1 if self.primary is None else self.primary)
         if self.primary is not None:
             self.primary_goes("suspected")
         elif (candidate := self.candidate()) is not None:
@@ -192,6 +212,7 @@ class Shepherd:
             progress.out = job
             if job.word == "run":
                 progress.attempt(job.txn)
+            self.note("take", job.txn, replica, f"{job.word} {job.index}" if job.index else job.word)
             self.follow()
         return job
 
@@ -199,6 +220,7 @@ class Shepherd:
         self.clear_turn()
         progress = self.replicas[replica]
         job, progress.out = progress.out, None
+        self.note("reply", job.txn, replica, reply.told)
         if isinstance(reply, Lost):
             self.is_lost(replica)
         else:
@@ -214,6 +236,7 @@ class Shepherd:
             attempt.answers.append(reply.answer)
             if replica == self.primary and txn.is_open and len(txn.given) < job.index:
                 txn.given.append((reply.answer, len(self.log)))
+                self.note("given", txn.number, replica, write.answer(reply.answer))
         elif isinstance(reply, Blocked):
             attempt.waits = {it for it in reply.by if progress.is_running(it)}
         elif all(progress.is_running(it) for it in reply.members):
@@ -224,6 +247,7 @@ class Shepherd:
         self.clear_turn()
         progress = self.replicas[replica]
         job, progress.out = progress.out, None
+        self.note("reply", job.txn, replica, "done" if answered else "lost")
         if not answered:
             progress.doubt = job.word == "commit"
             self.is_lost(replica)
@@ -236,6 +260,7 @@ class Shepherd:
         self.clear_turn()
         progress = self.replicas[replica]
         progress.out = None
+        self.note("reply", 0, replica, "lost" if count is None else f"{count} committed")
         if count is not None:
             if count in (progress.position, progress.position + progress.doubt):
                 progress.position = count
@@ -315,7 +340,7 @@ class Shepherd:
 
     def convict(self, replica: int, text: str) -> None:
         self.replicas[replica].convicted = True
-        self.convictions.append(Reason(replica, text))
+        self.note("convict", replica=replica, text=text)
         if replica == self.primary:
             self.primary_goes("convicted")
         elif self.left is not None and self.left[0] == replica:
@@ -348,6 +373,7 @@ class Shepherd:
 
     def refuse(self, txn: Txn, ending: str) -> bool:
         txn.phase, txn.ending = "refused", ending
+        self.note("refuse", txn.number, text=ending)
         return True
 
     def refuse_with_primary(self) -> bool:
@@ -389,6 +415,7 @@ class Shepherd:
             if any(told == txn.answers for told, _ in self.votes(txn)):
                 self.log.append(txn)
                 txn.phase, txn.order, txn.ending = "logged", len(self.log), f"committed {len(self.log)}"
+                self.note("decide", txn.number, text=str(len(self.log)))
                 return True
         return False
 
@@ -416,6 +443,7 @@ class Shepherd:
         if candidate is None or self.replicas[candidate].position != len(self.log):
             return False
         self.primary = candidate
+        self.note("primary", replica=candidate)
         return True
 
     def preempt(self) -> bool:
@@ -426,6 +454,7 @@ class Shepherd:
                 if self.must_give_way(progress, self.txn(txn)):
                     progress.attempts[txn].preempted = True
                     progress.preempted += 1
+                    self.note("preempt", txn, number)
                     return True
         return False
 
