@@ -3,6 +3,7 @@
   python3 -m sim seeds FIRST LAST      scenarios of these seeds: each report is judged, and foretold to the byte
   python3 -m sim damage FIRST LAST     scenarios of these seeds with bytes, words and lines broken: read or refused
   python3 -m sim one_fault             one act in `transfer_beside_reader`: each act, replica and call, 396 runs
+  python3 -m sim memory                each allocation of four scenarios is refused in turn
   python3 -m sim worked                the models against the repository's own worked scenarios, texts and statements
   python3 -m sim sqlite FIRST LAST     the plain machine against SQLite, on statements of these seeds
   python3 -m sim make SEED             writes the scenario of a seed
@@ -11,6 +12,7 @@
 
   --program FILE  a build of the program; where there are several they must agree (crates/hrdb/out/hrdb where there is none)
   --judge-alone   reports are judged, and not foretold
+  --stack KIB     the program gets so much stack
 """
 
 from __future__ import annotations
@@ -20,7 +22,7 @@ import sys
 from collections import Counter
 from pathlib import Path
 
-from . import damage, judge, make, one_fault, replay, runs, scenario, sqlite, worked
+from . import damage, judge, make, memory, one_fault, replay, runs, scenario, sqlite, worked
 from .runs import Trial
 from .shrink import shrink
 
@@ -35,8 +37,9 @@ def main() -> int:
     parser.add_argument("words", nargs="*")
     parser.add_argument("--program", action="append", type=Path)
     parser.add_argument("--judge-alone", action="store_true")
+    parser.add_argument("--stack", type=int)
     given = parser.parse_args()
-    trial = Trial(given.program or [runs.PROGRAM], not given.judge_alone)
+    trial = Trial(given.program or [runs.PROGRAM], not given.judge_alone, given.stack)
     return COMMANDS[given.command](trial, *given.words)
 
 
@@ -97,6 +100,16 @@ def one_faults(trial: Trial) -> int:
     return bool(failed)
 
 
+def refused_memory(trial: Trial) -> int:
+    failed = 0
+    for program in trial.programs:
+        for name in memory.SCENARIOS:
+            shown, wrong = memory.refuse_all(program, name)
+            print(f"{program.name}, {name}: {dict(sorted(shown.items()))}", *wrong, sep="\n")
+            failed += len(wrong)
+    return bool(failed)
+
+
 def tables(_: Trial) -> int:
     """The models against what was worked out by hand."""
     failed = 0
@@ -133,6 +146,7 @@ COMMANDS = {
     "seeds": seeds,
     "damage": damaged,
     "one_fault": one_faults,
+    "memory": refused_memory,
     "worked": tables,
     "sqlite": beside_sqlite,
     "make": made,

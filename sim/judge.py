@@ -15,8 +15,8 @@ from .scenario import Block, Scenario
 REFUSALS = ("deadlock", "primary", "differ", "memory")
 
 
-def faults_of(scenario: Scenario, text: bytes) -> list[str]:
-    """What is wrong with this report of a run of this scenario."""
+def faults_of(scenario: Scenario, text: bytes, is_short: bool = False) -> list[str]:
+    """What is wrong with this report of a run of this scenario; only where memory is short may it be refused."""
     try:
         report = read(text)
     except BadReport as bad:
@@ -25,7 +25,10 @@ def faults_of(scenario: Scenario, text: bytes) -> list[str]:
     if frame:
         return frame
     checks = (numbering, commits_and_tries, tries, convictions, states, answers, orders, rows, quiet)
-    return [fault for check in checks for fault in check(scenario, report)]
+    found = [fault for check in checks for fault in check(scenario, report)]
+    if not is_short and any(it.ending == "memory" for it in all_tries(report)):
+        found.append("a transaction is refused for want of memory")
+    return found
 
 
 def frame_faults(scenario: Scenario, report: Report) -> Iterator[str]:
@@ -105,8 +108,6 @@ def ending(scenario: Scenario, report: Report, block: Block, it: Try) -> Iterato
     """A transaction's ending is one that its block, its replicas and its log can bring about."""
     if it.ending in ("committed", "differ") and not block.commits or it.ending == "rolledback" and block.commits:
         yield f"txn {it.txn} ends as {it.ending}, and its block as {'COMMIT' if block.commits else 'ROLLBACK'}"
-    if it.ending == "memory":
-        yield f"txn {it.txn}: memory was there"
     if it.ending == "differ":
         if not 1 <= int(it.said[0]) <= len(block.statements) or it.given == it.agreed:
             yield f"txn {it.txn} doesn't differ"
@@ -229,7 +230,7 @@ def quiet(scenario: Scenario, report: Report) -> Iterator[str]:
         if report.convictions or any(it.ending == "differ" for it in all_tries(report)):
             yield "nobody lies, and somebody is convicted or an answer differs"
         if not any(scenario.scripts) and not scenario.suspects:
-            if any(it.ending in ("primary", "differ", "memory") for it in all_tries(report)):
-                yield "nothing disturbs, and a transaction is refused for more than a deadlock"
+            if any(it.ending in ("primary", "differ") for it in all_tries(report)):
+                yield "nothing disturbs, and a transaction is refused for more than a deadlock or want of memory"
             if not report.replicas[0].is_primary:
                 yield "nothing disturbs, and replica 0 isn't the primary"

@@ -48,8 +48,22 @@ class Statements:
 
     def any(self) -> str:
         table = self.dice.pick(*self.catalog)
+        if self.dice.one_in(150):
+            return self.deep(table)
         makers = [self.update] * 5 + [self.select] * 4 + [self.insert, self.insert, self.delete, self.join, self.groups]
         return self.dice.pick(*makers)(table)
+
+    def deep(self, table: Table) -> str:
+        """As many parentheses as a line holds, or as many negations or comparisons."""
+        name, key = table.name, table.columns[0].name
+        depth = (1000 - len(name) - 4 * len(key)) // 2
+        return self.dice.pick(
+            f"SELECT {'(' * (depth - 20)}{key}{')' * (depth - 20)} FROM {name}",
+            f"SELECT * FROM {name} WHERE {'(' * (depth - 20)}{key} = 1{')' * (depth - 20)}",
+            f"SELECT COUNT(*) FROM {name} WHERE {'NOT ' * (depth // 2 - 20)}{key} = {self.key()}",
+            f"DELETE FROM {name} WHERE {key} = 1{' OR 1=2' * (depth // 4 - 20)}",
+            f"SELECT {key}{'+1' * (depth - 30)} FROM {name}",
+        )
 
     def key(self) -> int:
         return self.dice.number(1, self.keys)

@@ -25,9 +25,10 @@ class Outcome:
     told: bytes
 
 
-def run(program: Path, text: bytes) -> Outcome:
-    """A run of `step` on this text."""
-    ended = subprocess.run([program, "step"], input=text, capture_output=True, timeout=SECONDS)
+def run(program: Path, text: bytes, stack: int | None = None) -> Outcome:
+    """A run of `step` on this text, with at most so many KiB of stack."""
+    words = [program, "step"] if stack is None else ["sh", "-c", f'ulimit -s {stack} && exec "$0" step', program]
+    ended = subprocess.run(words, input=text, capture_output=True, timeout=SECONDS)
     return Outcome(ended.returncode, ended.stdout, ended.stderr)
 
 
@@ -38,14 +39,16 @@ def refused(line: Refused) -> Outcome:
 
 @dataclass
 class Trial:
-    """The programs that are tried, which must all do the same, and whether reports are also foretold to the byte."""
+    """The programs that are tried, which must all do the same; whether reports are also foretold to the byte; and the
+    stack that the programs get, in KiB."""
 
     programs: list[Path]
     foretells: bool = True
+    stack: int | None = None
 
     def faults(self, text: bytes) -> list[str]:
         """What is wrong with the runs of these programs on this text."""
-        first, *others = (run(it, text) for it in self.programs)
+        first, *others = (run(it, text, self.stack) for it in self.programs)
         found = [f"{path} does something else" for path, it in zip(self.programs[1:], others) if it != first]
         try:
             read = scenario.read(text)
