@@ -113,9 +113,9 @@ def refused_memory(trial: Trial) -> int:
 def tables(_: Trial) -> int:
     """The models against what was worked out by hand."""
     failed = 0
-    for name, table in (("scenarios", worked.scenarios), ("texts", worked.reader_texts), ("statements", worked.statements)):
+    for table in (worked.scenarios, worked.page, worked.reader_texts, worked.statements):
         count, wrong = table(runs.TOP)
-        print(f"{name}: {count - len(wrong)} agree, {len(wrong)} differ", *wrong)
+        print(f"{table.__name__}: {count - len(wrong)} agree, {len(wrong)} differ", *wrong)
         failed += len(wrong)
     return bool(failed)
 

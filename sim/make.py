@@ -43,15 +43,27 @@ class Dice:
 class Statements:
     """Statements over a catalog, on keys from 1 to `keys`."""
 
-    def __init__(self, dice: Dice, catalog: Catalog, keys: int):
-        self.dice, self.catalog, self.keys = dice, catalog, keys
+    def __init__(self, dice: Dice, catalog: Catalog, keys: int, narrow: bool = False):
+        self.dice, self.catalog, self.keys, self.narrow = dice, catalog, keys, narrow
 
     def any(self) -> str:
         table = self.dice.pick(*self.catalog)
+        if self.narrow:
+            return self.of_one_row(table)
         if self.dice.one_in(150):
             return self.deep(table)
         makers = [self.update] * 5 + [self.select] * 4 + [self.insert, self.insert, self.delete, self.join, self.groups]
         return self.dice.pick(*makers)(table)
+
+    def of_one_row(self, table: Table) -> str:
+        """A write or a read of one row, and of nothing else."""
+        where, column = f"WHERE id = {self.key()}", table.columns[1].name
+        return self.dice.pick(
+            f"UPDATE {table.name} SET {column} = {self.dice.number(0, 99)} {where}",
+            f"UPDATE {table.name} SET {column} = {column} + 1 {where}",
+            f"SELECT {column} FROM {table.name} {where}",
+            f"SELECT {column} FROM {table.name} {where}",
+        )
 
     def deep(self, table: Table) -> str:
         """As many parentheses as a line holds, or as many negations or comparisons."""
@@ -287,18 +299,45 @@ def schedule(dice: Dice, sessions: int, replicas: int) -> list[str]:
 
 
 def scenario(seed: int) -> list[str]:
-    """The lines of a scenario."""
+    """The lines of a scenario: one in four is narrow."""
     dice = Dice(seed)
+    return narrow(dice) if dice.one_in(4) else wide(dice)
+
+
+def wide(dice: Dice) -> list[str]:
+    """Of anything a little."""
     f = dice.pick(0, 1, 1, 1, 1, 1, 2, 2, 3)
-    replicas = [dice.pick("table", "range") for _ in range(2 * f + 1)]
     keys = dice.pick(1, 2, 3, 3, 6, 20)
     made = catalog(dice)
-    lines = ["hrdb 1", f"f {f}", f"replicas {' '.join(replicas)}"]
+    lines = head(dice, f)
     if not dice.one_in(3):
         lines.append(f"retries {dice.small(9)}")
     lines += tables(dice, made, keys)
     scripts = sessions(dice, Statements(dice, made, keys))
     lines += faults(dice, f, 2 * len(scripts) + 1)
-    for script in scripts:
-        lines += ["session", *script, "end"]
-    return lines + schedule(dice, len(scripts), len(replicas))
+    return lines + ends(dice, scripts, 2 * f + 1)
+
+
+def narrow(dice: Dice) -> list[str]:
+    """Reads and writes of one or two rows, a replica that mostly drops a write, and choices one by one, so that replicas
+    run what they are given at quite different times."""
+    f, keys = dice.pick(1, 1, 1, 2), dice.number(1, 2)
+    made = (Table("t", (ColumnOf("id", "int"), ColumnOf("v", "int"))),)
+    lines = [*head(dice, f), f"retries {dice.small(2)}", write.table(made[0])]
+    lines += [f"row t ({key}, {dice.number(0, 9)})" for key in range(1, keys + 1)]
+    liar = 0 if dice.one_in(2) else dice.number(0, 2 * f)
+    lines += [f"lie {liar} {it} {dice.pick('drop 1', 'drop 1', 'early', 'wrong 5')}" for it in {call(dice), 1 + dice.small(3)}]
+    statements = Statements(dice, made, keys, narrow=True)
+    scripts = [[line for _ in range(dice.number(1, 2)) for line in block(dice, statements)] for _ in range(dice.number(2, 3))]
+    return lines + ends(dice, scripts, 2 * f + 1)
+
+
+def head(dice: Dice, f: int) -> list[str]:
+    replicas = [dice.pick("table", "range") for _ in range(2 * f + 1)]
+    return ["hrdb 1", f"f {f}", f"replicas {' '.join(replicas)}"]
+
+
+def ends(dice: Dice, scripts: list[list[str]], replicas: int) -> list[str]:
+    """The lines of sessions, and of the schedule."""
+    lines = [line for script in scripts for line in ["session", *script, "end"]]
+    return lines + schedule(dice, len(scripts), replicas)

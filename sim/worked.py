@@ -8,7 +8,7 @@ from __future__ import annotations
 
 from pathlib import Path
 
-from . import judge, machine, report, scenario, syntax, write
+from . import judge, machine, replay, report, scenario, syntax, write
 from .scenario import Problems, Refused
 
 Outcome = tuple[int, list[str]]
@@ -34,6 +34,12 @@ def scenarios(top: Path) -> Outcome:
         elif due is None and judge.faults_of(scenario.read(text), path.with_suffix(".report").read_bytes()):
             wrong.append(path.name)
     return len(found), wrong
+
+
+def page(top: Path) -> Outcome:
+    """The scenario of `docs/FORMATS.md`, its first example, gives the report of the second."""
+    text, told = (top / "docs/FORMATS.md").read_text().split("```\n")[1:4:2]
+    return 1, [] if replay.report(scenario.read(text.encode())) == told.encode() else ["docs/FORMATS.md"]
 
 
 def reader_texts(top: Path) -> Outcome:
