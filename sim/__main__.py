@@ -50,7 +50,7 @@ def seeds(trial: Trial, first: str, last: str) -> int:
         lines = make.scenario(seed)
         if faults := trial.faults(text_of(lines)):
             return tell(trial, seed, lines, faults)
-        shown += runs.seen(runs.run(trial.programs[0], text_of(lines)).out)
+        shown += runs.seen(trial.last.out)
         progress(seed, int(first))
     for what, count in sorted(shown.items()):
         print(f"{what}: {count}")
