@@ -1,6 +1,7 @@
 """Tries `hrdb step` on made-up scenarios, and judges what it does.
 
   python3 -m sim seeds FIRST LAST      scenarios of these seeds: each report is judged, and foretold to the byte
+  python3 -m sim near FIRST LAST       scenarios near to the stored ones, by these seeds: the same
   python3 -m sim damage FIRST LAST     scenarios of these seeds with bytes, words and lines broken: read or refused
   python3 -m sim one_fault             one act in `transfer_beside_reader`: each act, replica and call, 396 runs
   python3 -m sim memory                each allocation of four scenarios is refused in turn
@@ -20,9 +21,10 @@ from __future__ import annotations
 import argparse
 import sys
 from collections import Counter
+from collections.abc import Callable
 from pathlib import Path
 
-from . import damage, judge, make, memory, one_fault, replay, runs, scenario, sqlite, worked
+from . import damage, judge, make, memory, near, one_fault, replay, runs, scenario, sqlite, worked
 from .runs import Trial
 from .shrink import shrink
 
@@ -44,17 +46,25 @@ def main() -> int:
 
 
 def seeds(trial: Trial, first: str, last: str) -> int:
+    return run_all(trial, make.scenario, int(first), int(last))
+
+
+def nears(trial: Trial, first: str, last: str) -> int:
+    return run_all(trial, near.scenario, int(first), int(last))
+
+
+def run_all(trial: Trial, maker: Callable[[int], list[str]], first: int, last: int) -> int:
     """Runs the scenarios of seeds; the first one that fails is cut down, and written."""
     shown: Counter[str] = Counter()
-    for seed in range(int(first), int(last) + 1):
-        lines = make.scenario(seed)
+    for seed in range(first, last + 1):
+        lines = maker(seed)
         if faults := trial.faults(text_of(lines)):
             return tell(trial, seed, lines, faults)
-        shown += runs.seen(runs.run(trial.programs[0], text_of(lines)).out)
-        progress(seed, int(first))
+        shown += runs.seen(trial.last.out) if trial.last.status == 0 else Counter({"refused": 1})
+        progress(seed, first)
     for what, count in sorted(shown.items()):
         print(f"{what}: {count}")
-    print(f"{int(last) - int(first) + 1} runs passed, 0 failed")
+    print(f"{last - first + 1} runs passed, 0 failed")
     return 0
 
 
@@ -144,6 +154,7 @@ def judged(_: Trial, read: str, told: str) -> int:
 
 COMMANDS = {
     "seeds": seeds,
+    "near": nears,
     "damage": damaged,
     "one_fault": one_faults,
     "memory": refused_memory,

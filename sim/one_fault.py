@@ -49,7 +49,7 @@ def faults(trial: Trial, act: str, replica: int, call: int) -> list[str]:
     found = trial.faults(text)
     if found:
         return found
-    told = report.read(runs.run(trial.programs[0], text).out)
+    told = report.read(trial.last.out)
     may_be = set() if act.startswith("lose") else {replica}
     if {it.replica for it in told.convictions} - may_be:
         found.append("another replica is convicted")

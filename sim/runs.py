@@ -39,16 +39,18 @@ def refused(line: Refused) -> Outcome:
 
 @dataclass
 class Trial:
-    """The programs that are tried, which must all do the same; whether reports are also foretold to the byte; and the
-    stack that the programs get, in KiB."""
+    """The programs that are tried, which must all do the same; whether reports are also foretold to the byte; the stack
+    that the programs get, in KiB; and how the first program's last run ended."""
 
     programs: list[Path]
     foretells: bool = True
     stack: int | None = None
+    last: Outcome = Outcome(0, b"", b"")
 
     def faults(self, text: bytes) -> list[str]:
         """What is wrong with the runs of these programs on this text."""
         first, *others = (run(it, text, self.stack) for it in self.programs)
+        self.last = first
         found = [f"{path} does something else" for path, it in zip(self.programs[1:], others) if it != first]
         try:
             read = scenario.read(text)

@@ -214,7 +214,8 @@ class Reading:
             raise Kind("limit")
         self.part = "replicas"
 
-    def in_replicas(self, _: str, words: list[str]) -> None:
+    def in_replicas(self, line: str, words: list[str]) -> None:
+        must_form("(" not in line)
         must_form(words[0] == "replicas" and len(words) == 2 * self.scenario.f + 2)
         if any(it not in ("table", "range") for it in words[1:]):
             raise Kind("unknown")
