@@ -13,7 +13,6 @@ use std::alloc::{AllocError, Global};
 use std::marker::Model;
 
 /// The kept history, with what each session is told. Contracts see the history.
-#[derive(Drop)]
 pub struct Core {
     ledger: Ledger,
     /// Session S stands at the place S - 1.
@@ -21,6 +20,17 @@ pub struct Core {
     /// Why transaction T was refused, if it was, stands at the place T - 1.
     causes: Vec<Option<Shown>>,
     suspects: u64,
+}
+
+impl Drop for Core {
+    fn drop(self) {
+        let Core {
+            ledger: _ledger,
+            seats: _seats,
+            causes: _causes,
+            suspects: _suspects,
+        } = self;
+    }
 }
 
 impl Model for Core {

@@ -20,16 +20,29 @@ use std::alloc::{AllocError, Global};
 use std::cmp::Ordering;
 
 /// A group: its values, and what is kept for each item.
-#[derive(Drop)]
 pub struct Group {
     key: Row,
     tallies: Seq<Tally>,
 }
 
+impl Drop for Group {
+    fn drop(self) {
+        let Group {
+            key: _key,
+            tallies: _tallies,
+        } = self;
+    }
+}
+
 /// The groups so far, at most one more than an answer may have rows: then they are too many, whatever comes.
-#[derive(Drop)]
 pub struct Groups {
     groups: Vec<Group>,
+}
+
+impl Drop for Groups {
+    fn drop(self) {
+        let Groups { groups: _groups } = self;
+    }
 }
 
 impl Group {

@@ -17,11 +17,20 @@ use std::alloc::{AllocError, Global};
 
 /// The rows so far, at most [`MAX_ROWS`] of them. What is kept is counted up to one too many, since too many rows come
 /// before all errors; the first error ends the evaluation, and not the count.
-#[derive(Drop)]
 pub struct PlainRows {
     count: usize,
     rows: Seq<Row>,
     error: Option<RunError>,
+}
+
+impl Drop for PlainRows {
+    fn drop(self) {
+        let PlainRows {
+            count: _count,
+            rows: _rows,
+            error: _error,
+        } = self;
+    }
 }
 
 impl PlainRows {

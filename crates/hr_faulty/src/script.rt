@@ -6,10 +6,18 @@ use hr_rel::Seq;
 
 /// One act of a script: at the call with this number. The calls `run`, `commit`, `rollback` and `restart` are counted
 /// from 1.
-#[derive(Drop)]
 pub struct Fault {
     pub call: u64,
     pub act: Act,
+}
+
+impl Drop for Fault {
+    fn drop(self) {
+        let Fault {
+            call: _call,
+            act: _act,
+        } = self;
+    }
 }
 
 /// What a scripted backend does at a call. On a call of another kind an act but `Lose` does nothing.

@@ -1,13 +1,15 @@
 //! The databases: `table t (id int key, v int)`, without rows.
-ghost use Rattle.std.specs.Prelude.{◌≡◌, IfOk, length};
+ghost use Rattle.std.specs.Prelude.{◌≡◌, true, IfOk, [], ◌∷◌};
+ghost use Rattle.hr_rel.specs.Holds.{IsSound, holds};
 
-use hr_one_engine::OneEngine;
 use hr_rel::{Catalog, ColKind, ColumnDef, Name, Seq, TableDef};
+use hr_table_engine::{TableEngine, table_engine};
 use std::alloc::{AllocError, Global};
 
 /// The catalog.
 pub fn catalog(alloc: Global) -> Result<Catalog, AllocError>
-    ensures { IfOk result (λ catalog. length catalog.tables ≡ 1) }
+    ensures sound { IfOk result (λ catalog. IsSound catalog) }
+    ensures holds { IfOk result (λ catalog. holds catalog ([] ∷ []) ≡ true) }
 {
     let (Some(t), Some(id), Some(v)) = (Name::new(b"t"), Name::new(b"id"), Name::new(b"v")) else {
         unreachable!()
@@ -21,12 +23,13 @@ pub fn catalog(alloc: Global) -> Result<Catalog, AllocError>
 }
 
 /// A database of it.
-pub fn engine(alloc: Global, catalog: &Catalog) -> Result<OneEngine, AllocError>
-    requires { length catalog.now.tables ≡ 1 }
+pub fn engine(alloc: Global, catalog: &Catalog) -> Result<TableEngine, AllocError>
+    requires sound { IsSound catalog.now }
+    requires holds { holds catalog.now ([] ∷ []) ≡ true }
 {
     let mut rows = Seq::new(alloc);
     rows.push(Seq::new(alloc))?;
-    OneEngine::new(alloc, catalog, &rows)
+    table_engine(alloc, catalog, &rows)
 }
 
 fn column(name: &Name) -> ColumnDef {

@@ -16,7 +16,6 @@ use std::marker::Model;
 
 /// The one kept history of `2f + 1` replicas and so many sessions. Contracts see its entries, with `f` and the number of
 /// sessions.
-#[derive(Drop)]
 pub struct Ledger {
     sessions: u32,
     stored: Vec<Stored>,
@@ -29,6 +28,20 @@ pub struct Ledger {
     turn: Turn,
     /// It has the replies to all runs.
     view: View,
+}
+
+impl Drop for Ledger {
+    fn drop(self) {
+        let Ledger {
+            sessions: _sessions,
+            stored: _stored,
+            statements: _statements,
+            scripts: _scripts,
+            asks: _asks,
+            turn: _turn,
+            view: _view,
+        } = self;
+    }
 }
 
 impl Model for Ledger {

@@ -8,10 +8,18 @@ use hr_engine::TxnId;
 use std::alloc::AllocError;
 
 /// A transaction's session, and where its statements stand among all statements, in their order.
-#[derive(Drop)]
 pub struct Script {
     pub session: u32,
     pub statements: Vec<usize>,
+}
+
+impl Drop for Script {
+    fn drop(self) {
+        let Script {
+            session: _session,
+            statements: _statements,
+        } = self;
+    }
 }
 
 /// The session of a transaction, if there is such a transaction.

@@ -21,13 +21,23 @@ use std::marker::Model;
 use std::mem;
 
 /// A database whose rows lie in lists. It runs one statement after another, without transactions.
-#[derive(Drop)]
 pub struct Machine {
     alloc: Global,
     catalog: Catalog,
     tables: Rows,
     // Whether the rows are known to be in order, and so found by their keys.
     ordered: bool,
+}
+
+impl Drop for Machine {
+    fn drop(self) {
+        let Machine {
+            alloc: _alloc,
+            catalog: _catalog,
+            tables: _tables,
+            ordered: _ordered,
+        } = self;
+    }
 }
 
 impl Model for Machine {

@@ -8,7 +8,6 @@
 use hr_rel::{Name, Op, Seq};
 use sqlite_items::Boxed;
 
-#[derive(Drop)]
 pub enum Ast {
     Select(SelectAst),
     Insert(InsertAst),
@@ -16,7 +15,17 @@ pub enum Ast {
     Delete(DeleteAst),
 }
 
-#[derive(Drop)]
+impl Drop for Ast {
+    fn drop(self) {
+        match self {
+            Ast::Select(_part) => {}
+            Ast::Insert(_part) => {}
+            Ast::Update(_part) => {}
+            Ast::Delete(_part) => {}
+        }
+    }
+}
+
 pub struct SelectAst {
     pub items: Items,
     pub first: EntryAst,
@@ -25,15 +34,34 @@ pub struct SelectAst {
     pub groups: Seq<ColumnAst>,
 }
 
+impl Drop for SelectAst {
+    fn drop(self) {
+        let SelectAst {
+            items: _items,
+            first: _first,
+            join: _join,
+            filter: _filter,
+            groups: _groups,
+        } = self;
+    }
+}
+
 /// What a SELECT shows.
-#[derive(Drop)]
 pub enum Items {
     /// `*`, at its place.
     Star(u32),
     Listed(Seq<ItemAst>),
 }
 
-#[derive(Drop)]
+impl Drop for Items {
+    fn drop(self) {
+        match self {
+            Items::Star(_part) => {}
+            Items::Listed(_part) => {}
+        }
+    }
+}
+
 pub enum ItemAst {
     Plain(ExprAst),
     /// `COUNT(*)`, at its place.
@@ -45,6 +73,20 @@ pub enum ItemAst {
     },
 }
 
+impl Drop for ItemAst {
+    fn drop(self) {
+        match self {
+            ItemAst::Plain(_part) => {}
+            ItemAst::CountAll(_part) => {}
+            ItemAst::Aggregate {
+                word: _word,
+                column: _column,
+                at: _at,
+            } => {}
+        }
+    }
+}
+
 #[derive(Clone, Copy, Debug, PartialEq, Eq)]
 pub enum AggWord {
     Count,
@@ -53,10 +95,18 @@ pub enum AggWord {
     Max,
 }
 
-#[derive(Drop)]
 pub struct JoinAst {
     pub entry: EntryAst,
     pub on: CondAst,
+}
+
+impl Drop for JoinAst {
+    fn drop(self) {
+        let JoinAst {
+            entry: _entry,
+            on: _on,
+        } = self;
+    }
 }
 
 /// A table of a SELECT, and the name that the statement gives it.
@@ -79,7 +129,6 @@ pub struct ColumnAst {
     pub second: Option<NameAt>,
 }
 
-#[derive(Drop)]
 pub struct InsertAst {
     pub table: NameAt,
     /// Empty where the statement names no columns.
@@ -87,30 +136,73 @@ pub struct InsertAst {
     pub tuples: Seq<TupleAst>,
 }
 
-#[derive(Drop)]
+impl Drop for InsertAst {
+    fn drop(self) {
+        let InsertAst {
+            table: _table,
+            columns: _columns,
+            tuples: _tuples,
+        } = self;
+    }
+}
+
 pub struct TupleAst {
     pub values: Seq<LiteralAst>,
     pub at: u32,
 }
 
-#[derive(Drop)]
+impl Drop for TupleAst {
+    fn drop(self) {
+        let TupleAst {
+            values: _values,
+            at: _at,
+        } = self;
+    }
+}
+
 pub struct UpdateAst {
     pub table: NameAt,
     pub sets: Seq<SetAst>,
     pub filter: Option<CondAst>,
 }
 
+impl Drop for UpdateAst {
+    fn drop(self) {
+        let UpdateAst {
+            table: _table,
+            sets: _sets,
+            filter: _filter,
+        } = self;
+    }
+}
+
 /// One assignment of an UPDATE.
-#[derive(Drop)]
 pub struct SetAst {
     pub column: NameAt,
     pub value: ExprAst,
 }
 
-#[derive(Drop)]
+impl Drop for SetAst {
+    fn drop(self) {
+        let SetAst {
+            column: _column,
+            value: _value,
+        } = self;
+    }
+}
+
 pub struct DeleteAst {
     pub table: NameAt,
     pub filter: Option<CondAst>,
+}
+
+impl Drop for DeleteAst {
+    fn drop(self) {
+        let DeleteAst {
+            table: _table,
+            filter: _filter,
+        } = self;
+    }
 }
 
 #[derive(Drop)]
@@ -159,16 +251,33 @@ pub enum ExprKind {
     Mul(Boxed<ExprAst>, Boxed<ExprAst>),
 }
 
-#[derive(Drop)]
 pub struct LiteralAst {
     pub value: LitAst,
     pub at: u32,
 }
 
-#[derive(Drop)]
+impl Drop for LiteralAst {
+    fn drop(self) {
+        let LiteralAst {
+            value: _value,
+            at: _at,
+        } = self;
+    }
+}
+
 pub enum LitAst {
     Null,
     Int(i64),
     /// The bytes between the quotes, with doubled quotes once. They may be more than a `Name` holds.
     Text(Seq<u8>),
+}
+
+impl Drop for LitAst {
+    fn drop(self) {
+        match self {
+            LitAst::Null => {}
+            LitAst::Int(_part) => {}
+            LitAst::Text(_part) => {}
+        }
+    }
 }

@@ -27,7 +27,6 @@ pub enum Mark {
 }
 
 /// What a token says.
-#[derive(Drop)]
 pub enum Word {
     Fixed(Mark),
     /// In small letters.
@@ -38,11 +37,31 @@ pub enum Word {
     Compare(Op),
 }
 
+impl Drop for Word {
+    fn drop(self) {
+        match self {
+            Word::Fixed(_part) => {}
+            Word::Name(_part) => {}
+            Word::Number(_part) => {}
+            Word::Text(_part) => {}
+            Word::Compare(_part) => {}
+        }
+    }
+}
+
 /// A word, and the place in the text at which it begins.
-#[derive(Drop)]
 pub struct Lexeme {
     pub word: Word,
     pub at: u32,
+}
+
+impl Drop for Lexeme {
+    fn drop(self) {
+        let Lexeme {
+            word: _word,
+            at: _at,
+        } = self;
+    }
 }
 
 /// Whether two marks are the same.

@@ -14,7 +14,6 @@ use indexmap::IndexMap;
 use std::alloc::{AllocError, Global};
 
 /// A transaction at a replica.
-#[derive(Drop)]
 pub struct Attempt {
     pub answers: Vec<Told>,
     /// The place among the replies of the first answer of the attempt, where it has one.
@@ -25,6 +24,18 @@ pub struct Attempt {
     pub touched: bool,
     /// It is to be rolled back here, and to run again.
     pub preempted: bool,
+}
+
+impl Drop for Attempt {
+    fn drop(self) {
+        let Attempt {
+            answers: _answers,
+            began: _began,
+            last: _last,
+            touched: _touched,
+            preempted: _preempted,
+        } = self;
+    }
 }
 
 /// An answer of an attempt.

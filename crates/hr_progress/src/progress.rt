@@ -21,7 +21,6 @@ use indexmap::IndexMap;
 use std::alloc::{AllocError, Global};
 
 /// A replica.
-#[derive(Drop)]
 pub struct Progress {
     pub lost: bool,
     pub convicted: bool,
@@ -36,6 +35,21 @@ pub struct Progress {
     pub touched: Vec<TxnId>,
     /// How many of the log, from its first on, are committed here, or have every statement answered here.
     pub processed: u64,
+}
+
+impl Drop for Progress {
+    fn drop(self) {
+        let Progress {
+            lost: _lost,
+            convicted: _convicted,
+            position: _position,
+            doubt: _doubt,
+            out: _out,
+            attempts: _attempts,
+            touched: _touched,
+            processed: _processed,
+        } = self;
+    }
 }
 
 /// So many replicas to which nothing has happened.

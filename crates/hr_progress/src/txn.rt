@@ -14,13 +14,23 @@ use hr_history::Phase;
 use std::alloc::{AllocError, Global};
 
 /// A transaction.
-#[derive(Drop)]
 pub struct TxnState {
     pub session: u32,
     /// How many were submitted.
     pub statements: u32,
     pub given: Vec<Given>,
     pub phase: Phase,
+}
+
+impl Drop for TxnState {
+    fn drop(self) {
+        let TxnState {
+            session: _session,
+            statements: _statements,
+            given: _given,
+            phase: _phase,
+        } = self;
+    }
 }
 
 /// An answer that was given to the session.

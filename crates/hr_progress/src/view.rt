@@ -20,7 +20,6 @@ use std::alloc::{AllocError, Global};
 use std::marker::Model;
 
 /// All that the shepherd's rules look at, but the turn: the log, the transactions, the replicas, and the primary.
-#[derive(Drop)]
 pub struct View {
     f: u32,
     log: Vec<TxnId>,
@@ -34,6 +33,22 @@ pub struct View {
     fresh: Option<Fresh>,
     /// The open transactions, in ascending order.
     opened: Vec<TxnId>,
+}
+
+impl Drop for View {
+    fn drop(self) {
+        let View {
+            f: _f,
+            log: _log,
+            txns: _txns,
+            replicas: _replicas,
+            primary: _primary,
+            search_after: _search_after,
+            replies: _replies,
+            fresh: _fresh,
+            opened: _opened,
+        } = self;
+    }
 }
 
 impl Model for View {

@@ -18,13 +18,21 @@ use std::alloc::{AllocError, Global};
 /// cells, beside what is committed.
 ///
 /// No two transactions may have changed the row at one key.
-#[derive(Drop)]
 pub struct RangeStore {
     // What statements look at, laid in place of what earlier ones have left there.
     machine: Machine,
     store: Store,
     ghost ordered: { IsOrdered machine },
     ghost whole: { IsOf machine.catalog store },
+}
+
+impl Drop for RangeStore {
+    fn drop(self) {
+        let RangeStore {
+            machine: _machine,
+            store: _store,
+        } = self;
+    }
 }
 
 impl RangeStore {

@@ -115,11 +115,14 @@ fn insert_all(alloc: Global, table: &Name, tuples: Seq<TupleAst>) -> Ast
 }
 
 /// The row of an INSERT of one tuple.
-fn row_in(alloc: Global, statement: Stmt) -> Row
+fn row_in(alloc: Global, mut statement: Stmt) -> Row
     ensures { result ≡ spec.row_in statement }
 {
-    match statement {
-        Stmt::Insert(insert) => first_of(alloc, insert.rows.into_vec()),
+    match &mut statement {
+        Stmt::Insert(insert) => {
+            let rows = mem::replace(&mut insert.rows, Seq::new(alloc));
+            first_of(alloc, rows.into_vec())
+        }
         _ => Seq::new(alloc),
     }
 }

@@ -3,11 +3,21 @@ use std::alloc::{AllocError, Global};
 
 /// What a statement answers: the rows of a SELECT, the number of rows that another statement inserted, changed or
 /// removed, or the error at which it failed and changed nothing.
-#[derive(Debug, PartialEq, Eq, Drop)]
+#[derive(Debug, PartialEq, Eq)]
 pub enum Answer {
     Rows(Seq<Row>),
     Count(u64),
     Failed(RunError),
+}
+
+impl Drop for Answer {
+    fn drop(self) {
+        match self {
+            Answer::Rows(_part) => {}
+            Answer::Count(_part) => {}
+            Answer::Failed(_part) => {}
+        }
+    }
 }
 
 /// Why a statement failed when it ran.

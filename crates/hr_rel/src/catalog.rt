@@ -2,16 +2,31 @@ use crate::{Name, Seq, TryCopy};
 use std::alloc::{AllocError, Global};
 
 /// The tables of a database. No statement changes it.
-#[derive(Debug, Drop)]
+#[derive(Debug)]
 pub struct Catalog {
     pub tables: Seq<TableDef>,
 }
 
+impl Drop for Catalog {
+    fn drop(self) {
+        let Catalog { tables: _tables } = self;
+    }
+}
+
 /// A table: its name and its columns, of which there are at most [`MAX_COLUMNS`](hr_base::limits::MAX_COLUMNS). Column 0 is the key.
-#[derive(Debug, Drop)]
+#[derive(Debug)]
 pub struct TableDef {
     pub name: Name,
     pub columns: Seq<ColumnDef>,
+}
+
+impl Drop for TableDef {
+    fn drop(self) {
+        let TableDef {
+            name: _name,
+            columns: _columns,
+        } = self;
+    }
 }
 
 /// A column: its name, the kind of its values, whether NULL may stand in it, and whether it has an index.

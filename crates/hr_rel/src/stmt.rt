@@ -2,7 +2,7 @@ use crate::{ColRef, Expr, Pred, Row, Seq, TryCopy};
 use std::alloc::{AllocError, Global};
 
 /// A bound statement: names are turned into places, and tables are numbers into the catalog, from 0.
-#[derive(Debug, Drop)]
+#[derive(Debug)]
 pub enum Stmt {
     Select(SelectStmt),
     Insert(InsertStmt),
@@ -10,8 +10,19 @@ pub enum Stmt {
     Delete(DeleteStmt),
 }
 
+impl Drop for Stmt {
+    fn drop(self) {
+        match self {
+            Stmt::Select(_part) => {}
+            Stmt::Insert(_part) => {}
+            Stmt::Update(_part) => {}
+            Stmt::Delete(_part) => {}
+        }
+    }
+}
+
 /// `SELECT items FROM tables [ON on] [WHERE filter] [GROUP BY groups]` over one or two table entries.
-#[derive(Debug, Drop)]
+#[derive(Debug)]
 pub struct SelectStmt {
     pub tables: Seq<u32>,
     pub on: Option<Pred>,
@@ -20,8 +31,20 @@ pub struct SelectStmt {
     pub groups: Seq<ColRef>,
 }
 
+impl Drop for SelectStmt {
+    fn drop(self) {
+        let SelectStmt {
+            tables: _tables,
+            on: _on,
+            filter: _filter,
+            items: _items,
+            groups: _groups,
+        } = self;
+    }
+}
+
 /// One column of a SELECT's answer.
-#[derive(Debug, Drop)]
+#[derive(Debug)]
 pub enum Item {
     Plain(Expr),
     CountAll,
@@ -31,33 +54,83 @@ pub enum Item {
     Max(ColRef),
 }
 
+impl Drop for Item {
+    fn drop(self) {
+        match self {
+            Item::Plain(_part) => {}
+            Item::CountAll => {}
+            Item::Count(_part) => {}
+            Item::Sum(_part) => {}
+            Item::Min(_part) => {}
+            Item::Max(_part) => {}
+        }
+    }
+}
+
 /// `INSERT INTO table VALUES rows`: each row whole, in the table's order of columns.
-#[derive(Debug, Drop)]
+#[derive(Debug)]
 pub struct InsertStmt {
     pub table: u32,
     pub rows: Seq<Row>,
 }
 
+impl Drop for InsertStmt {
+    fn drop(self) {
+        let InsertStmt {
+            table: _table,
+            rows: _rows,
+        } = self;
+    }
+}
+
 /// `UPDATE table SET sets [WHERE filter]`.
-#[derive(Debug, Drop)]
+#[derive(Debug)]
 pub struct UpdateStmt {
     pub table: u32,
     pub sets: Seq<Set>,
     pub filter: Option<Pred>,
 }
 
+impl Drop for UpdateStmt {
+    fn drop(self) {
+        let UpdateStmt {
+            table: _table,
+            sets: _sets,
+            filter: _filter,
+        } = self;
+    }
+}
+
 /// One assignment of an UPDATE: the column's place from 0, and its new value.
-#[derive(Debug, Drop)]
+#[derive(Debug)]
 pub struct Set {
     pub column: u32,
     pub value: Expr,
 }
 
+impl Drop for Set {
+    fn drop(self) {
+        let Set {
+            column: _column,
+            value: _value,
+        } = self;
+    }
+}
+
 /// `DELETE FROM table [WHERE filter]`.
-#[derive(Debug, Drop)]
+#[derive(Debug)]
 pub struct DeleteStmt {
     pub table: u32,
     pub filter: Option<Pred>,
+}
+
+impl Drop for DeleteStmt {
+    fn drop(self) {
+        let DeleteStmt {
+            table: _table,
+            filter: _filter,
+        } = self;
+    }
 }
 
 impl TryCopy for Stmt {

@@ -6,7 +6,6 @@ use hr_parse::Ast;
 use hr_rel::{Catalog, Rows, Seq, Stmt};
 
 /// The tables with their first rows, the replicas with their faults, what each session does, and in which order.
-#[derive(Drop)]
 pub struct Scenario {
     /// How many replicas may answer wrongly.
     pub f: u32,
@@ -27,14 +26,39 @@ pub struct Scenario {
     pub schedule: Option<Seq<Choice>>,
 }
 
+impl Drop for Scenario {
+    fn drop(self) {
+        let Scenario {
+            f: _f,
+            kinds: _kinds,
+            retries: _retries,
+            catalog: _catalog,
+            rows: _rows,
+            faults: _faults,
+            suspects: _suspects,
+            scripts: _scripts,
+            schedule: _schedule,
+        } = self;
+    }
+}
+
 /// The statements of one transaction, and how it ends.
-#[derive(Drop)]
 pub struct Block {
     pub stmts: Seq<Stmt>,
     /// The trees that the statements were bound from.
     pub texts: Seq<Ast>,
     /// Whether it ends with COMMIT, and not with ROLLBACK.
     pub commits: bool,
+}
+
+impl Drop for Block {
+    fn drop(self) {
+        let Block {
+            stmts: _stmts,
+            texts: _texts,
+            commits: _commits,
+        } = self;
+    }
 }
 
 /// What happens next.

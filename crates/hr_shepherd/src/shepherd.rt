@@ -25,9 +25,14 @@ use std::alloc::{AllocError, Global};
 use std::marker::Model;
 
 /// The shepherd of `2f + 1` replicas and so many sessions. Contracts see its history, with `f` and the number of sessions.
-#[derive(Drop)]
 pub struct Shepherd {
     core: Box<Core>,
+}
+
+impl Drop for Shepherd {
+    fn drop(self) {
+        let Shepherd { core: _core } = self;
+    }
 }
 
 impl Model for Shepherd {

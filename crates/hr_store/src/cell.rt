@@ -10,10 +10,18 @@ use hr_rel::Row;
 pub type TxnId = u64;
 
 /// What stands at a place: the committed row, and beside it what a running transaction has made of it.
-#[derive(Drop)]
 pub struct Cell {
     pub committed: Option<Row>,
     pub pending: Option<Pending>,
+}
+
+impl Drop for Cell {
+    fn drop(self) {
+        let Cell {
+            committed: _committed,
+            pending: _pending,
+        } = self;
+    }
 }
 
 /// What a running transaction has made of a row: another row, or none.

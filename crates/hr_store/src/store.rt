@@ -20,7 +20,6 @@ use std::collections::BTreeMap;
 /// hasn't ended.
 ///
 /// Contracts see it by `cell_at`: what stands at each key of each table.
-#[derive(Drop)]
 pub struct Store {
     tables: u32,
     cells: Cells,
@@ -28,6 +27,17 @@ pub struct Store {
     handed: u64,
     ghost listed: { IsListed cells written },
     ghost sorted: { IsOrdered place_cmp cells } by { Prim.hlevel props },
+}
+
+impl Drop for Store {
+    fn drop(self) {
+        let Store {
+            tables: _tables,
+            cells: _cells,
+            written: _written,
+            handed: _handed,
+        } = self;
+    }
 }
 
 impl Store {

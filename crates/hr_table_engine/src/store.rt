@@ -19,13 +19,21 @@ use std::alloc::{AllocError, Global};
 /// kept, and a rollback puts them back.
 ///
 /// No two transactions may have changed one table.
-#[derive(Drop)]
 pub struct TableStore {
     machine: Machine,
     slots: Vec<Option<Before>>,
     ghost sized: { length slots.items ≡ length machine.tables },
     ghost ordered: { IsOrdered machine },
     ghost kept: { list_all is_kept_ordered slots.items ≡ true },
+}
+
+impl Drop for TableStore {
+    fn drop(self) {
+        let TableStore {
+            machine: _machine,
+            slots: _slots,
+        } = self;
+    }
 }
 
 impl TableStore {

@@ -11,13 +11,17 @@ use hr_rel::{Answer, Seq, Stmt};
 use hr_said::Scenario;
 
 /// A report, as far as it tells of what was committed: the transactions in the order of their commits.
-#[derive(Drop)]
 pub struct Report {
     pub commits: Seq<ToldCommit>,
 }
 
+impl Drop for Report {
+    fn drop(self) {
+        let Report { commits: _commits } = self;
+    }
+}
+
 /// A committed transaction, as a report tells of it.
-#[derive(Drop)]
 pub struct ToldCommit {
     /// The number of its session, from 1.
     pub session: u32,
@@ -26,6 +30,17 @@ pub struct ToldCommit {
     pub txn: TxnId,
     /// The accepted answers to the statements of the block, in their order and in canonical form.
     pub answers: Seq<Answer>,
+}
+
+impl Drop for ToldCommit {
+    fn drop(self) {
+        let ToldCommit {
+            session: _session,
+            block: _block,
+            txn: _txn,
+            answers: _answers,
+        } = self;
+    }
 }
 
 /// The statements of a block, by the numbers of its session and of itself, both from 1; None where the scenario has no such

@@ -1,3 +1,0 @@
-pub mod OneLock
-pub mod Steps
-pub mod Calls
