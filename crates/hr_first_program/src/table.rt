@@ -1,5 +1,6 @@
 //! The databases: `table t (id int key, v int)`, without rows.
-ghost use Rattle.std.specs.Prelude.{◌≡◌, true, IfOk, [], ◌∷◌};
+ghost use Rattle.std.specs.Prelude.{◌≡◌, true, false, IfOk, [], ◌∷◌};
+ghost use Rattle.hr_rel.specs.declared.catalog.ColKind.TheVariants as kind;
 ghost use Rattle.hr_rel.specs.Holds.{IsSound, holds};
 
 use hr_rel::{Catalog, ColKind, ColumnDef, Name, Seq, TableDef};
@@ -32,7 +33,10 @@ pub fn engine(alloc: Global, catalog: &Catalog) -> Result<TableEngine, AllocErro
     table_engine(alloc, catalog, &rows)
 }
 
-fn column(name: &Name) -> ColumnDef {
+fn column(name: &Name) -> ColumnDef
+    ensures kind { result.kind ≡ kind.Int }
+    ensures not_null { result.nullable ≡ false }
+{
     ColumnDef {
         name: *name,
         kind: ColKind::Int,
