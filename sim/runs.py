@@ -3,6 +3,7 @@
 from __future__ import annotations
 
 import subprocess
+import sys
 from collections import Counter
 from dataclasses import dataclass
 from pathlib import Path
@@ -11,8 +12,6 @@ from . import judge, replay, report, scenario
 from .scenario import Refused, Scenario
 
 TOP = Path(__file__).resolve().parent.parent
-# As LLVM builds it. Where `rt ci` ran, what Rattle's own compiler makes of it lies beside it.
-PROGRAM = TOP / "crates/hrdb/out/hrdb"
 SECONDS = 60
 
 
@@ -23,6 +22,14 @@ class Outcome:
     status: int
     out: bytes
     told: bytes
+
+
+def program() -> Path:
+    """The program that `./hrdb` runs, which is built first where it isn't there."""
+    found = subprocess.run([TOP / "tools/program"], stdout=subprocess.PIPE, text=True)
+    if found.returncode:
+        sys.exit(found.returncode)
+    return Path(found.stdout.rstrip("\n"))
 
 
 def run(program: Path, text: bytes, stack: int | None = None) -> Outcome:

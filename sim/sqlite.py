@@ -1,7 +1,7 @@
 """The plain machine beside SQLite, on made-up statements.
 
 Where SQLite means something else nothing is compared: a sum that overflows, an answer of more rows than this profile
-gives, and a statement whose failure depends on the order of rows.
+gives, a statement whose failure depends on the order of rows, and one that is too deep for SQLite's parser.
 """
 
 from __future__ import annotations
@@ -60,6 +60,11 @@ class Both:
             return None
         try:
             told = self.answer(text, isinstance(tree, syntax.Select))
+        except sqlite3.OperationalError as error:
+            if "parser stack overflow" not in str(error):
+                raise
+            self.plain = before
+            return None
         except sqlite3.IntegrityError as error:
             word = "duplicate" if "UNIQUE" in str(error) else "null"
             return isinstance(due, machine.Failed) and due.cause.startswith(word) and self.holds(before)
