@@ -8,6 +8,8 @@ use crate::runs::{Load, Replies};
 pub enum Task {
     Run(Load),
     Ask(Rule),
+    /// How long a turn of the turn lock takes.
+    Times,
 }
 
 /// One session of transactions of one statement, three replicas.
@@ -61,6 +63,7 @@ pub fn task_of(name: &str) -> Option<Task> {
         "tally" => Some(Task::Ask(Rule::Tally)),
         "evidence" => Some(Task::Ask(Rule::Evidence)),
         "walk" => Some(Task::Ask(Rule::Walk)),
+        "times" => Some(Task::Times),
         _ => None,
     }
 }

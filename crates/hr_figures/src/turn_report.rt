@@ -1,8 +1,8 @@
-//! What is printed.
+//! What is printed of the turn lock.
 ghost use Rattle.std.specs.Prelude.{◌<◌, ◌^◌};
 
 use crate::block::Padding;
-use crate::load::{Limit, Load, run_mutex, run_turn_lock, work};
+use crate::turns::{Limit, Load, run_mutex, run_turn_lock, work};
 use std::io;
 use std::rt::Clock;
 use std::sync::Wait;

@@ -1,5 +1,5 @@
 use Rattle.std.proofs.Common.{◌≤◌}
-use Rattle.hr_rule_figures.proofs.rules.answers.Given as goal
+use Rattle.hr_figures.proofs.rules.answers.Given as goal
 
 abbrev pub invariant-calls : goal.invariant-calls
 invariant-calls l = l.answered ≤ l.call

@@ -1,6 +1,6 @@
 use Rattle.std.proofs.Common.{◌≡◌, All}
 use Rattle.hr_turn.specs.Passes.{id_of, lock_of, view_of, IsFree}
-use Rattle.hr_turn_figures.proofs.load.split_off.Given as goal
+use Rattle.hr_figures.proofs.turns.split_off.Given as goal
 
 abbrev pub invariant-splits : goal.invariant-splits
 invariant-splits g l = record {
