@@ -1,7 +1,7 @@
 """The models held against what stands in the repository, worked out by hand and apart from them.
 
-Three tables: the scenarios with their reports or refusals, the texts of `hr_reader_tests`, and the statements of
-`hr_statement_runs`. Each answers the names of the rows that differ, and how many there were.
+Three tables: the scenarios with their reports or refusals, and the scenarios and the statements of `hr_runs`. Each answers the
+names of the rows that differ, and how many there were.
 """
 
 from __future__ import annotations
@@ -42,11 +42,18 @@ def page(top: Path) -> Outcome:
     return 1, [] if replay.report(scenario.read(text.encode())) == told.encode() else ["docs/FORMATS.md"]
 
 
+def part_of(top: Path, file: str, name: str) -> list[str]:
+    """The lines of a part of what `hr_runs` is given or writes."""
+    lines = (top / "crates/hr_runs" / file).read_text().split("\n")[:-1]
+    start = lines.index(f"%% {name}") + 1
+    heads = (place for place in range(start, len(lines)) if lines[place].startswith("%% "))
+    return lines[start : next(heads, len(lines))]
+
+
 def reader_texts(top: Path) -> Outcome:
-    """Each text of the reader's tests is a scenario, or refused at the line and for the kind written there."""
-    folder = top / "crates/hr_reader_tests"
-    told = iter((folder / "stdout").read_text().split("\n"))
-    wrong, cases = [], list(texts_of((folder / "stdin").read_text()))
+    """Each text of the part `scenarios` is a scenario, or refused at the line and for the kind written there."""
+    told = iter(part_of(top, "stdout", "scenarios"))
+    wrong, cases = [], list(texts_of(part_of(top, "stdin", "scenarios")))
     for name, text in cases:
         while next(told) != name:
             pass
@@ -57,10 +64,10 @@ def reader_texts(top: Path) -> Outcome:
     return len(cases), wrong
 
 
-def texts_of(stdin: str):
-    """The names and texts of the reader's tests."""
+def texts_of(stdin: list[str]):
+    """The names and texts of the part `scenarios`."""
     name, text = "", ""
-    for line in stdin.split("\n"):
+    for line in stdin:
         if line.startswith("== "):
             name, text = line[3:], ""
         elif line == "==":
@@ -70,7 +77,7 @@ def texts_of(stdin: str):
 
 
 def expanded(line: str) -> str:
-    """The lines that a line of the reader's tests stands for."""
+    """The lines that a line of such a text stands for."""
     word, _, rest = line.partition(" ")
     if word == "%raw":
         return rest.replace("^", "\r").replace("$", "\n")
@@ -83,11 +90,10 @@ def expanded(line: str) -> str:
 
 
 def statements(top: Path) -> Outcome:
-    """Each statement of `hr_statement_runs` that is one is answered as written there, and each other one is refused."""
-    folder = top / "crates/hr_statement_runs"
-    told = (folder / "stdout").read_text().split("\n")
+    """Each statement of the part `statements` that is one is answered as written there, and each other one is refused."""
+    told = part_of(top, "stdout", "statements")
     wrong, count, place, plain = [], 0, 0, machine.Machine(())
-    for line in (folder / "stdin").read_text().split("\n")[:-1]:
+    for line in part_of(top, "stdin", "statements"):
         place += 1
         if line == "database":
             plain = machine.Machine(())

@@ -4,9 +4,6 @@ use crate::item::Item;
 use crate::plain::{Plain, TXNS};
 use hr_locks::{Grant, LockTable, Need, TxnId};
 use std::alloc::{AllocError, Global};
-use std::test::Fail;
-
-const STEPS: u32 = 24_000;
 
 /// How many answers of each kind came.
 #[derive(Clone, Copy)]
@@ -95,7 +92,7 @@ impl Both {
     }
 }
 
-fn run(alloc: Global) -> Result<Tally, AllocError> {
+fn run(alloc: Global, steps: u32) -> Result<Tally, AllocError> {
     let mut both = Both {
         table: LockTable::new(alloc),
         plain: Plain::new(alloc),
@@ -110,23 +107,22 @@ fn run(alloc: Global) -> Result<Tally, AllocError> {
         long: 0,
         wrong: 0,
     };
-    for _ in 0..STEPS {
+    for _ in 0..steps {
         both.step(alloc, &mut draw, &mut tally)?;
     }
     Ok(tally)
 }
 
-#[test]
-fn random_calls(rt: HostRuntime) -> Result<(), Fail> {
-    let tally = run(rt.alloc())?;
-    assert_eq!(rt; tally.wrong, 0);
-    assert!(rt; tally.requests >= 3000, "{} requests", tally.requests);
-    assert!(rt;
-        tally.blocked >= tally.requests / 3,
-        "{} blocked",
-        tally.blocked
-    );
-    assert!(rt; tally.deadlocks >= 500, "{} deadlocks", tally.deadlocks);
-    assert!(rt; tally.long >= 100, "{} of four or more", tally.long);
-    Ok(())
+/// How many of the answers to random calls were wrong, and whether enough of each kind came.
+pub fn push_random(alloc: Global, out: &mut String, steps: u32) -> Result<(), AllocError> {
+    let tally = run(alloc, steps)?;
+    let wrong = tally.wrong;
+    let requests = tally.requests >= 3000;
+    let blocked = tally.blocked >= tally.requests / 3;
+    let deadlocks = tally.deadlocks >= 500;
+    let long = tally.long >= 100;
+    write!(
+        out,
+        "{wrong} wrong; 3000 requests {requests}, a third of them blocked {blocked}, 500 deadlocks {deadlocks}, 100 of four or more {long}"
+    )
 }
