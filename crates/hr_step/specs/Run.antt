@@ -17,6 +17,8 @@ use Rattle.hr_schedule.specs.Claims.{Locking, TableRows, IsRun, Claims}
 use Rattle.hr_scripted.specs.Scripted.{CallsStand}
 use Rattle.hr_undisturbed.specs.Quiet.{IsQuiet, IsSmooth}
 use Rattle.hr_run_report.specs.Report.{report_text}
+use Rattle.hr_generator.specs.declared.order.Order.{Order}
+use Rattle.hr_summary.specs.Summary.{summary_text}
 
 -- the rows that a statement needs at each kind of engine: whole tables, or intervals of keys
 abbrev pub parts_at : EngineKind → Stmt → List Part
@@ -31,17 +33,27 @@ locking kind = by_parts (parts_at kind)
 abbrev pub tries_in : Scenario → Chronicle → List (List Try)
 tries_in sc kept = map (λ s. tries_of sc.retries s (history_in kept)) (one_to (length sc.scripts))
 
--- The text tells of a run of the scenario: there is one kept history that its choices make, over engines of its kinds behind
--- its scripts. All holds that is claimed of such runs, for the answers and for the rows. The calls of the sessions stand as
--- their scripts say, in order and once. Where nothing disturbs the replicas, the run is smooth. The text is the report of this
--- history and of the rows that these engines have committed.
-pub record IsReport (sc : Scenario) (text : Text) : Type 0 where
-  pub kept : Chronicle
-  pub dumps : List TableRows
+-- A run of the scenario: one kept history that its choices make, over engines of its kinds behind its scripts, and the rows that
+-- these engines have committed. All holds that is claimed of such runs, for the answers and for the rows. The calls of the
+-- sessions stand as their scripts say, in order and once. Where nothing disturbs the replicas, the run is smooth.
+pub record IsExecution (sc : Scenario) (kept : Chronicle) (dumps : List TableRows) : Type 0 where
   pub size : (kept.f ≡ sc.f) × (kept.sessions ≡ length sc.scripts)
   pub all : length dumps ≡ 2 * sc.f + 1
   pub run : IsRun locking sc (history_in kept) dumps
   pub claims : Claims locking sc (history_in kept) dumps
   pub calls : CallsStand sc (history_in kept)
   pub smooth : IsQuiet sc → IsSmooth sc.f (history_in kept)
+
+-- the text is the report of a run of the scenario
+pub record IsReport (sc : Scenario) (text : Text) : Type 0 where
+  pub kept : Chronicle
+  pub dumps : List TableRows
+  pub execution : IsExecution sc kept dumps
   pub is : text ≡ report_text sc.kinds sc.catalog kept (tries_in sc kept) dumps
+
+-- the text is the summary of a run of the scenario, which was made by this order
+pub record IsSummary (order : Order) (sc : Scenario) (text : Text) : Type 0 where
+  pub kept : Chronicle
+  pub dumps : List TableRows
+  pub execution : IsExecution sc kept dumps
+  pub is : text ≡ summary_text order kept dumps

@@ -1,4 +1,4 @@
-//! Runs a scenario, and reports the run: the shepherd over the two engines, each behind its script.
+//! Runs a scenario, and reports the run or sums it up: the shepherd over the two engines, each behind its script.
 #![tactic(auto)]
 
 mod copy;
@@ -7,4 +7,4 @@ mod replica;
 mod run;
 mod step;
 
-pub use step::report;
+pub use step::{report, summary};

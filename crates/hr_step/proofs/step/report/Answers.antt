@@ -1,15 +1,9 @@
 use Rattle.std.proofs.Common.{◌∙◌}
 use Rattle.std.specs.Prelude.{string_bytes}
-use Rattle.hr_ledger.specs.Chronicle.{history_in}
-use Rattle.hr_step.specs.Run.{locking}
 use Rattle.hr_step.proofs.ReportLemmas.{reported}
 use Rattle.hr_step.proofs.step.report.Goals as goal
 
 pub returns : goal.returns
 returns c =
     reported string_bytes c.args.scenario.now c.in_ok-ran.ran.driver.shepherd _ _ c.in_ok-ran.ran.dumps.items _ c.report_text.result
-    c.in_ok-ran.ensures.size c.in_ok-ran.ensures.sessions c.in_ok-ran.ensures.all c.in_ok-ran.ensures.run
-    (c.claims.ensures locking c.args.scenario.now (history_in c.in_ok-ran.ran.driver.shepherd) c.in_ok-ran.ran.dumps.items c.in_ok-ran.ensures.run)
-    (c.scripted.ensures c.args.scenario.now (history_in c.in_ok-ran.ran.driver.shepherd) c.in_ok-ran.ensures.run.faithful c.in_ok-ran.ensures.run.chosen)
-    (λ quiet. c.runs.ensures.smooth locking c.args.scenario.now (history_in c.in_ok-ran.ran.driver.shepherd) c.in_ok-ran.ran.dumps.items quiet c.in_ok-ran.ensures.run)
-    c.as_slice.ensures (c.as_slice-2.ensures ∙ c.in_ok-tries.ensures) c.as_slice-3.ensures.value c.report_text.ensures
+    c.in_ok-ran.ensures c.as_slice.ensures (c.as_slice-2.ensures ∙ c.in_ok-tries.ensures) c.as_slice-3.ensures.value c.report_text.ensures
