@@ -53,7 +53,7 @@ small_number n h =
     let low : nat_lt n (2 ^ 64) ≡ true = grind (arith, nat_tests, h) in
     rw low refl
 
-number_again : (n : ℕ) → n < 2 ^ 64 → number_of (decimal n) ≡ Some (number.Of n)
+pub number_again : (n : ℕ) → n < 2 ^ 64 → number_of (decimal n) ≡ Some (number.Of n)
 unfolding number_of
 number_again n h =
     let value : digits_value 10 (decimal n) ≡ n = digits_value-decimal own n h in

@@ -1,0 +1,11 @@
+pub mod Base
+pub mod Texts
+pub mod Numbers
+pub mod Parsing
+pub mod Spelling
+pub mod Binding
+pub mod Statements
+pub mod Lines
+pub mod Sessions
+pub mod Schedule
+pub mod Whole

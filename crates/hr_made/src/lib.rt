@@ -1,0 +1,4 @@
+//! What the generator makes is a scenario.
+#![tactic(auto)]
+
+pub mod laws;
